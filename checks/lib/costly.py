@@ -28,6 +28,20 @@ def distinct(signs, seed, most=15):
     return text[:SIZE].rpartition(b"\n")[0] + b"\n", "/?" + path
 
 
+def side_by_side(signs, seed, least, most):
+    """Returns rules whose runs stand side by side in a path, and that path: all runs of so many signs, each once or until the text is full."""
+    dice = random.Random(seed)
+    path = "".join(dice.choices(signs, k=4_060))[:4_060]
+    lines, size = [b"user-agent: *\n"], 14
+    while size < SIZE:
+        for count in range(least, most + 1):
+            for begin in range(count):
+                runs = [path[at : at + count] for at in range(begin, len(path) - count, count)]
+                lines.append(f"allow:*{'*'.join(runs)}*~~\n".encode())
+                size += len(lines[-1])
+    return b"".join(lines)[:SIZE].rpartition(b"\n")[0] + b"\n", "/?" + path
+
+
 def stairs(piece, sign=b""):
     """Rules each of which is longer than the one before."""
     lines, size, at = [b"user-agent: *\n"], 14, 0
@@ -77,6 +91,12 @@ CROWDED, CROWDED_PATH = in_turn(["{`Ak", "{`qu", "{`Ax", "{`qE", "{`AH"])
 NEARLY = "\\{" * 4 + "a7C" + "\\{" * 5
 MANY_RUNS, MANY_PATH = distinct("^|{}`", 9309)
 FEW_RUNS, FEW_PATH = distinct("^|", 9309, 22)
+LETTERS = "abcdefghijklmnopqrstuvwxyz"
+# more runs than are kept, asked for in turn; and so many that hardly any is asked for twice
+SHORT_RUNS, SHORT_RUNS_PATH = side_by_side(LETTERS, 9309, 3, 8)
+OTHER_RUNS, OTHER_RUNS_PATH = side_by_side(LETTERS, 93_090, 3, 13)
+# runs that the first octets in which they are sorted hardly tell apart
+LONG_RUNS, LONG_RUNS_PATH = side_by_side(["^^^^^^"] * 3 + list("^|"), 309, 4, 9)
 
 TEXTS = {
     "plain rules": filled(b"disallow: /part{n}/page\n"),
@@ -104,6 +124,9 @@ TEXTS = {
     "rules of runs of one sign, each longer": stairs_of_runs(b"|"),
     "rules of runs of which no two are the same": MANY_RUNS,
     "rules of such runs of two signs": FEW_RUNS,
+    "rules of more short runs than are kept": SHORT_RUNS,
+    "rules of runs side by side, hardly any twice": OTHER_RUNS,
+    "rules of long runs that begin alike": LONG_RUNS,
     "rules of two literals that pushed each other out": PUSHED_OUT,
     "rules of four such literals of escapes": PUSHED_PAIRS,
     "rules of five literals that push each other out": CROWDED,
@@ -144,7 +167,7 @@ PATHS = [
     "/?" + "".join("".join(DICE.choices(["{||", "{{}", "||}"], k=64)) + "{|}" for _ in range(20)),
     "/?" + ("^|" * 30 + "{|") * 64, "/?" + ("^|" * 450 + "{|") * 4,
     "/?" + "|" * 2_000 + "~" + (NEARLY * 5 + "|") * 19, "/?" + "".join(DICE.choices("^|{}", k=2_030)) * 2, MANY_PATH, FEW_PATH,
-    PUSHED_PATH, PUSHED_PAIRS_PATH, CROWDED_PATH, "/?" + "".join(DICE.choices("^|{}", k=4_060)), "/?" + ("^|" * 11 + "^}") * 169,
+    SHORT_RUNS_PATH, OTHER_RUNS_PATH, LONG_RUNS_PATH, PUSHED_PATH, PUSHED_PAIRS_PATH, CROWDED_PATH, "/?" + "".join(DICE.choices("^|{}", k=4_060)), "/?" + ("^|" * 11 + "^}") * 169,
     # (all but these are asked before there is an index, too)
     "/", "/ab", "/%7e%7e%7e7",
 ]

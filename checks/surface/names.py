@@ -1,11 +1,12 @@
-"""Names and widths that readers rely on: each public type of the product has a name of its own, and no line of a definition
-has over 120 columns, nor one of a contract's clauses over 100."""
+"""Names and widths that readers rely on: each type of the product, public or not, has a name of its own, and no line of a
+definition has over 120 columns, nor one of a contract's clauses over 100."""
 import os
 import re
 
 from sources import CLAUSE, read
 
-TYPE = re.compile(r"^\s*pub (?:struct|enum|trait|type) (\w+)", flags=re.M)
+# (an associated type is indented)
+TYPE = re.compile(r"^(?:pub(?:\(\w+\))? )?(?:struct|enum|union|trait|type) (\w+)", flags=re.M)
 DEFINITION, WIDE_CLAUSE = 120, 100
 
 
@@ -15,13 +16,13 @@ def files_of(folder, ending):
 
 
 def named_twice(root):
-    """Returns a line for each name that two public types have. Crates of tests alone are left out."""
+    """Returns a line for each name that two types have. Crates of tests alone are left out."""
     owners = {}
     for crate in sorted(os.listdir(f"{root}/crates")):
         for file in files_of(f"{root}/crates/{crate}/src", ".rt"):
             for name in TYPE.findall(read(file)) if not crate.endswith("_tests") else ():
                 owners.setdefault(name, set()).add(os.path.relpath(file, f"{root}/crates"))
-    return [f"{name} is a public type of {' and '.join(sorted(files))}" for name, files in sorted(owners.items()) if len(files) > 1]
+    return [f"{name} is a type of {' and '.join(sorted(files))}" for name, files in sorted(owners.items()) if len(files) > 1]
 
 
 def too_wide(root):

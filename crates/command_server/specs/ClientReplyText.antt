@@ -9,13 +9,13 @@ use Rattle.crawl_job.specs.declared.hop.Refusal.TheVariants as refusals
 use Rattle.crawl_job.specs.declared.job.Outcome.{Outcome}
 use Rattle.counted_io.specs.Lines.{line_feed}
 use Rattle.line_text.specs.Pieces.{line_of}
-use Rattle.command_server.specs.FaultText.{line_fault_text}
-use Rattle.command_server.specs.HopText.{hops_text}
+use Rattle.command_lines.specs.FaultText.{line_fault_text}
+use Rattle.command_lines.specs.HopText.{hops_text}
 use Rattle.command_server.specs.InfoText.{info_text}
-use Rattle.command_server.specs.RefusalText.{refusal_text}
-use Rattle.command_server.specs.ReplyText.{arrive_text, ask_text, back_text, begin_text, bye_text, denial_text, finish_text, go_text, state_text, url_text}
-use Rattle.command_server.specs.SealText.{seal_text}
-use Rattle.command_server.specs.WhyText.{why_text}
+use Rattle.command_lines.specs.RefusalText.{refusal_text}
+use Rattle.command_lines.specs.ReplyText.{arrive_text, ask_text, back_text, begin_text, bye_text, denial_text, finish_text, go_text, state_text, url_text}
+use Rattle.command_lines.specs.SealText.{seal_text}
+use Rattle.command_lines.specs.WhyText.{why_text}
 use Rattle.command_server.specs.declared.client_reply.ClientReply.{ClientReply}
 use Rattle.command_server.specs.declared.client_reply.ClientReply.TheVariants as replies
 

@@ -14,22 +14,22 @@ use Rattle.crawl_job.specs.declared.job.Outcome.{Outcome}
 use Rattle.keepers.specs.Deals.{Deals}
 use Rattle.keepers.specs.declared.counts.Counts.{Counts}
 use Rattle.keepers.specs.declared.visits.Visitors.{Visitors}
-use Rattle.command_server.specs.CallOf.{command_of_among}
+use Rattle.command_lines.specs.CallOf.{command_of_among}
 use Rattle.command_server.specs.FirstLines.{is_turned_away}
-use Rattle.command_server.specs.Limits.{max_client_line, max_lines}
+use Rattle.command_lines.specs.Limits.{max_client_line, max_lines}
 use Rattle.command_server.specs.Readings.{next_reading}
-use Rattle.command_server.specs.Session.{Session}
+use Rattle.command_lines.specs.Session.{Session}
 use Rattle.command_server.specs.ClientReplyText.{client_reply_text}
-use Rattle.command_server.specs.declared.command.Command.{Command}
-use Rattle.command_server.specs.declared.command.Command.TheVariants as commands
-use Rattle.command_server.specs.declared.fault.LineFault.{LineFault}
-use Rattle.command_server.specs.declared.fault.LineFault.TheVariants as faults
+use Rattle.command_lines.specs.declared.command.Command.{Command}
+use Rattle.command_lines.specs.declared.command.Command.TheVariants as commands
+use Rattle.command_lines.specs.declared.fault.LineFault.{LineFault}
+use Rattle.command_lines.specs.declared.fault.LineFault.TheVariants as faults
 use Rattle.command_server.specs.declared.first_line.FirstLine.{FirstLine}
-use Rattle.command_server.specs.declared.session_fault.SessionFault.{SessionFault}
+use Rattle.command_lines.specs.declared.session_fault.SessionFault.{SessionFault}
 use Rattle.command_server.specs.declared.client_reply.ClientReply.{ClientReply}
 use Rattle.command_server.specs.declared.client_reply.ClientReply.TheVariants as replies
-use Rattle.command_server.specs.declared.verbs.Speaker.{Speaker}
-use Rattle.command_server.specs.Verbs.{dialogue_of}
+use Rattle.command_lines.specs.declared.verbs.Speaker.{Speaker}
+use Rattle.command_lines.specs.Verbs.{dialogue_of}
 
 -- the reply to a refresh: unknown verb if the keeper fetches nothing
 abbrev pub refreshed : List ℕ → Option (Result Standing BeginRefusal) → ClientReply

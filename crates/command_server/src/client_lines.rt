@@ -1,18 +1,15 @@
 //! A keeper answers the lines of a client.
 //! Used by `serve` for a session.
 ghost use Rattle.std.specs.Prelude.{◌≡◌, ◌||◌};
-ghost use Rattle.command_server.specs.Answers.{ends_session};
+ghost use Rattle.command_lines.specs.Answers.{ends_session};
 ghost use Rattle.command_server.specs.Clients.{DoesCall, DoesRequest, is_farewell};
 ghost use Rattle.command_server.specs.FirstLines.{is_turned_away};
 
-use crate::answerer::{Answerer, Flow};
 use crate::client_reply::ClientReply;
-use crate::command::{Command, read_command_knowing};
-use crate::fault::LineFault;
 use crate::first_line::FirstLine;
-use crate::known_pages::KeptPages;
+use crate::kept_pages::KeptPages;
 use crate::numbered_clock::{FetchClock, NumberedClock, next_reading};
-use crate::verbs::Speaker;
+use command_lines::{Answerer, Command, Flow, LineFault, Speaker, read_command_knowing};
 use counted_io::{DeviceFault, Output, Sink};
 use crawl_job::Job;
 use gate_core::Call;

@@ -3,22 +3,17 @@ ghost use Rattle.std.specs.Prelude.{◌≡◌, ◌∷◌, ◌++◌, []};
 ghost use Rattle.counted_io.specs.Output.{Pushes};
 ghost use Rattle.counted_io.specs.Lines.{line_feed};
 ghost use Rattle.line_text.specs.Pieces.{pieces_text};
-ghost use Rattle.command_server.specs.Answers.{ends_session};
+ghost use Rattle.command_lines.specs.Answers.{ends_session};
 ghost use Rattle.command_server.specs.Clients.{is_farewell};
 ghost use Rattle.command_server.specs.ClientReplyText.{body_text, fetched_text, refresh_text, spent_text, client_reply_text};
 
-use crate::answerer::Flow;
-use crate::fault::LineFault;
-use crate::hop_lines::push_hops;
 use crate::info_text::push_info;
-use crate::refusal_text::refusal_pieces;
-use crate::reply_text::{
-    arrive_pieces, ask_pieces, back_pieces, begin_pieces, bye_pieces, denial_pieces, fault_pieces,
-    finish_pieces, go_pieces, state_pieces, url_pieces,
-};
-use crate::seal_text::push_sealed;
-use crate::why_text::push_why;
 use authority_cache::StandingAnswer;
+use command_lines::{
+    Flow, LineFault, arrive_pieces, ask_pieces, back_pieces, begin_pieces, bye_pieces,
+    denial_pieces, fault_pieces, finish_pieces, go_pieces, push_hops, push_sealed, push_why,
+    refusal_pieces, state_pieces, url_pieces,
+};
 use counted_io::{DeviceFault, Output, Sink};
 use crawl_job::{Outcome, Refusal};
 use gate_core::{AskRefusal, BeginRefusal, Denial, NoMemory, Standing, State};

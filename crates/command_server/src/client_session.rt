@@ -2,18 +2,15 @@
 //! `crawlgate serve` runs one for each connection.
 ghost use Rattle.std.specs.Prelude.{◌≡◌};
 ghost use Rattle.command_server.specs.Clients.{AnswersClient, Serves};
-ghost use Rattle.command_server.specs.Limits.{max_client_line, max_lines};
+ghost use Rattle.command_lines.specs.Limits.{max_client_line, max_lines};
 ghost use Rattle.command_server.specs.declared.first_line.FirstLine.TheVariants as first_lines;
-ghost use Rattle.command_server.specs.declared.verbs.Speaker.TheVariants as speakers;
-ghost use Rattle.command_server.specs.Session.{Session, failures_after_reads, failures_after_writes};
+ghost use Rattle.command_lines.specs.declared.verbs.Speaker.TheVariants as speakers;
+ghost use Rattle.command_lines.specs.Session.{Session, failures_after_reads, failures_after_writes};
 
-use crate::book_lines::MAX_LINES;
 use crate::client_lines::{Client, ClientLines};
 use crate::first_line::FirstLine;
 use crate::numbered_clock::NumberedClock;
-use crate::session::run_session;
-use crate::session_fault::SessionFault;
-use crate::verbs::Speaker;
+use command_lines::{MAX_LINES, SessionFault, Speaker, run_session};
 use counted_io::{Sink, Source};
 use keepers::Keeper;
 use std::alloc::Global;

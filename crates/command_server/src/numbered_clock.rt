@@ -3,7 +3,7 @@
 ghost use Rattle.std.specs.Prelude.{◌≡◌};
 ghost use Rattle.command_server.specs.Readings.{next_reading};
 
-use crawl_workers::Clock;
+use page_worker::Clock;
 
 /// A clock whose caller numbers each reading. Generic code can prove of a moment only its numbers, so it
 /// can't pass an old reading off as a later one.

@@ -18,6 +18,7 @@ pub use crate::counted::Counted;
 pub use crate::fail_at::FailAt;
 pub use crate::fault::DeviceFault;
 pub use crate::line_end::LineEnd;
+pub use crate::line_part::part_len;
 pub use crate::line_reader::{LINE_BUFFER, LineReader};
 pub use crate::next_line::{NextLine, ReadLineFault};
 pub use crate::output::{OUTPUT_BUFFER, Output};

@@ -14,8 +14,8 @@ pub(crate) enum LinePart {
     TooLong,
 }
 
-/// The number of octets before the first line feed, or of all.
-pub(crate) fn part_len(octets: &[u8]) -> usize
+/// How many octets come before the first line feed; without one, all.
+pub fn part_len(octets: &[u8]) -> usize
     ensures { IsPart octets.now result }
 {
     match memchr(b'\n', octets) {

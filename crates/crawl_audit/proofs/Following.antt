@@ -31,7 +31,7 @@ use Rattle.gate_history.specs.Outstanding.{is_running, is_unspent, running, stan
 use Rattle.gate_history.specs.Standing.{has_turn, in_flight, is_fetching, past_count, standing}
 use Rattle.gate_history.proofs.CallerLemmas.{decides_once, stands_once}
 use Rattle.crawl_audit.specs.declared.open_state.OpenState.{OpenState}
-use Rattle.crawl_audit.specs.declared.numbers.Numbers.{Numbers}
+use Rattle.crawl_audit.specs.declared.numbers.PermitNumbers.{PermitNumbers}
 use Rattle.crawl_audit.specs.declared.numbers.Phase.{Phase}
 use Rattle.crawl_audit.specs.declared.numbers.Phase.TheVariants.{Unspent, Running}
 use Rattle.crawl_audit.specs.Tables.{Enters, GivesUnspent, Grants, is_new, is_running_in, is_unspent_in, MayCome, phases_of, Puts, running_under, StartsRun, Tells, unspent_under}
@@ -105,7 +105,7 @@ module _ (l : OpenState) (h : History) (t : Tells l h) where
 
   -- ---- grants
 
-  pub granted_follows : (moment n : ℕ) (fetch : Fetch) (reason : Reason) (numbers : Numbers) → l.clock ≤ moment → is_new l.numbers n ≡ true → Decides h fetch.token fetch.url moment (Ok reason) →
+  pub granted_follows : (moment n : ℕ) (fetch : Fetch) (reason : Reason) (numbers : PermitNumbers) → l.clock ≤ moment → is_new l.numbers n ≡ true → Decides h fetch.token fetch.url moment (Ok reason) →
       Grants l.numbers n fetch numbers →
       MayCome l.numbers.rising h (Granted moment n fetch) × Enters l.numbers.rising (h ▸ Granted moment n fetch) (record l { clock = moment; begins = l.begins; cache = l.cache; numbers = numbers })
   granted_follows moment n fetch reason numbers fit new decided grants =
@@ -210,7 +210,7 @@ module _ (l : OpenState) (h : History) (t : Tells l h) where
       by (Some (Unspent fetch)) is = (fetch, is)
       by (Some (Running fetch)) is = absurd (no_spend n moment outcome (ap is_unspent_in is) spends)
 
-  pub started_follows : (moment n : ℕ) (reason : Reason) (numbers : Numbers) → l.clock ≤ moment → SpendsAs h n moment (Ok reason) → StartsRun l.numbers n numbers →
+  pub started_follows : (moment n : ℕ) (reason : Reason) (numbers : PermitNumbers) → l.clock ≤ moment → SpendsAs h n moment (Ok reason) → StartsRun l.numbers n numbers →
       MayCome l.numbers.rising h (Started moment n reason) × Enters l.numbers.rising (h ▸ Started moment n reason) (record l { clock = moment; begins = l.begins; cache = l.cache; numbers = numbers })
   started_follows moment n reason numbers fit spends starts =
       let fetch = fetch_spent n moment (Ok reason) spends in
@@ -223,7 +223,7 @@ module _ (l : OpenState) (h : History) (t : Tells l h) where
         numbers_tell = started_tells l.numbers numbers h n t.numbers_tell moment reason fetch.0 fetch.1 puts;
       }) puts.rising
 
-  pub start_denied_follows : (moment n : ℕ) (cause : Cause) (numbers : Numbers) → l.clock ≤ moment → SpendsAs h n moment (Err cause) → Puts l.numbers n None numbers →
+  pub start_denied_follows : (moment n : ℕ) (cause : Cause) (numbers : PermitNumbers) → l.clock ≤ moment → SpendsAs h n moment (Err cause) → Puts l.numbers n None numbers →
       MayCome l.numbers.rising h (StartDenied moment n cause) × Enters l.numbers.rising (h ▸ StartDenied moment n cause) (record l { clock = moment; begins = l.begins; cache = l.cache; numbers = numbers })
   start_denied_follows moment n cause numbers fit spends puts =
       let fetch = fetch_spent n moment (Err cause) spends in
@@ -235,7 +235,7 @@ module _ (l : OpenState) (h : History) (t : Tells l h) where
         numbers_tell = start_denied_tells l.numbers numbers h n t.numbers_tell moment cause fetch.0 fetch.1 puts;
       }) puts.rising
 
-  pub returned_follows : (n : ℕ) (fetch : Fetch) (numbers : Numbers) → phases_of l.numbers n ≡ Some (Unspent fetch) → Puts l.numbers n None numbers →
+  pub returned_follows : (n : ℕ) (fetch : Fetch) (numbers : PermitNumbers) → phases_of l.numbers n ≡ Some (Unspent fetch) → Puts l.numbers n None numbers →
       MayCome l.numbers.rising h (Returned n) × Enters l.numbers.rising (h ▸ Returned n) (record l { clock = l.clock; begins = l.begins; cache = l.cache; numbers = numbers })
   returned_follows n fetch numbers some puts =
       comes (Returned n) _ (unspent_of n ∙ ap is_unspent_in some) (λ _. tt)
@@ -246,7 +246,7 @@ module _ (l : OpenState) (h : History) (t : Tells l h) where
         numbers_tell = returned_tells l.numbers numbers h n t.numbers_tell fetch some puts;
       }) puts.rising
 
-  pub finished_follows : (n : ℕ) (numbers : Numbers) → is_running_in (phases_of l.numbers n) ≡ true → Puts l.numbers n None numbers →
+  pub finished_follows : (n : ℕ) (numbers : PermitNumbers) → is_running_in (phases_of l.numbers n) ≡ true → Puts l.numbers n None numbers →
       MayCome l.numbers.rising h (Finished n) × Enters l.numbers.rising (h ▸ Finished n) (record l { clock = l.clock; begins = l.begins; cache = l.cache; numbers = numbers })
   finished_follows n numbers runs puts =
       let one = running_one (phases_of l.numbers n) runs in

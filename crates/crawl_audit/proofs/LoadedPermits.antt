@@ -18,7 +18,7 @@ use Rattle.gate_history.specs.History.{from}
 use Rattle.crawl_audit.specs.declared.first_base.FirstBase.{FirstBase}
 use Rattle.crawl_audit.specs.declared.first_base.LastLine.TheVariants as lasts
 use Rattle.crawl_audit.specs.declared.open_state.OpenState.{OpenState}
-use Rattle.crawl_audit.specs.declared.numbers.Numbers.{Numbers}
+use Rattle.crawl_audit.specs.declared.numbers.PermitNumbers.{PermitNumbers}
 use Rattle.crawl_audit.specs.declared.numbers.Phase.{Phase}
 use Rattle.crawl_audit.specs.declared.numbers.Phase.TheVariants as phases
 use Rattle.crawl_audit.specs.FirstBase.{SaysBase, is_used, key_of, permit_row}
@@ -32,7 +32,7 @@ use Rattle.crawl_audit.proofs.StandingRows.{no_running, no_unspent, nothing}
 
 -- ---- the open_state with other numbers of permits
 
-module _ (first first' : FirstBase) (open_state : OpenState) (numbers : Numbers) (b : Base) (says : SaysBase first open_state b) where
+module _ (first first' : FirstBase) (open_state : OpenState) (numbers : PermitNumbers) (b : Base) (says : SaysBase first open_state b) where
   told : Tells open_state (from b)
   told = let all = says.tells in all.tells
 

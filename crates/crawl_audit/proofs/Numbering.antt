@@ -17,7 +17,7 @@ use Rattle.gate_history.specs.Grants.{generation_in, greatest_of, is_covered, is
 use Rattle.gate_history.specs.History.{History, ◌▸◌}
 use Rattle.gate_history.specs.Outstanding.{grants, running, unspent, was_granted}
 use Rattle.gate_history.proofs.CallerLemmas.{granted_covered}
-use Rattle.crawl_audit.specs.declared.numbers.Numbers.{Numbers}
+use Rattle.crawl_audit.specs.declared.numbers.PermitNumbers.{PermitNumbers}
 use Rattle.crawl_audit.specs.declared.numbers.Phase.{Phase}
 use Rattle.crawl_audit.specs.declared.numbers.Phase.TheVariants.{Unspent, Running}
 use Rattle.gate_history.specs.Grants.{IsSlotGrant}
@@ -91,7 +91,7 @@ granted_slots gs n slot last are = elim (eqb_tells (slot_of n) slot) [
 
 -- ---- what the tables say
 
-pub still : (numbers : Numbers) (h h' : History) → unspent h' ≡ unspent h → running h' ≡ running h → grants h' ≡ grants h → ((n : ℕ) → was_granted h' n ≡ was_granted h n) → TellsNumbers numbers h → TellsNumbers numbers h'
+pub still : (numbers : PermitNumbers) (h h' : History) → unspent h' ≡ unspent h → running h' ≡ running h → grants h' ≡ grants h → ((n : ℕ) → was_granted h' n ≡ was_granted h n) → TellsNumbers numbers h → TellsNumbers numbers h'
 still numbers h h' permits runs slots granted t = record {
   unspent_are = λ n. ap (filter (is_numbered n)) permits ∙ t.unspent_are n;
   running_are = λ n. ap (filter (is_numbered n)) runs ∙ t.running_are n;
@@ -108,7 +108,7 @@ none_some x o some none = clash (sym some ∙ none)
     clash : Some x ≡ None → ⊥
     clash e = cc
 
-step : (p p' : Numbers) (h h' : History) (n : ℕ) (y : Phase) (x : Option Phase) → TellsNumbers p h → phases_of p n ≡ Some y → Puts p n x p' →
+step : (p p' : PermitNumbers) (h h' : History) (n : ℕ) (y : Phase) (x : Option Phase) → TellsNumbers p h → phases_of p n ≡ Some y → Puts p n x p' →
     filter (is_numbered n) (unspent h') ≡ unspent_under n x → ((m : ℕ) → m ≢ n → filter (is_numbered m) (unspent h') ≡ filter (is_numbered m) (unspent h)) →
     filter (is_numbered n) (running h') ≡ running_under n x → ((m : ℕ) → m ≢ n → filter (is_numbered m) (running h') ≡ filter (is_numbered m) (running h)) →
     grants h' ≡ grants h → ((m : ℕ) → was_granted h' m ≡ was_granted h m) → TellsNumbers p' h'
@@ -158,7 +158,7 @@ or_parts : (a b : Bool) → (a || b) ≡ false → b ≡ false
 or_parts true b is = absurd (true≢false is)
 or_parts false b is = is
 
-module _ (p p' : Numbers) (h : History) (n : ℕ) (tells : TellsNumbers p h) where
+module _ (p p' : PermitNumbers) (h : History) (n : ℕ) (tells : TellsNumbers p h) where
   pub new_free : is_new p n ≡ true → phases_of p n ≡ None
   new_free new = by p.rising refl new
     where

@@ -15,7 +15,7 @@ use Rattle.crawl_audit.specs.declared.first_base.FirstBase.{FirstBase}
 use Rattle.crawl_audit.specs.declared.first_base.LastLine.{LastLine}
 use Rattle.crawl_audit.specs.declared.first_base.LastLine.TheVariants as lasts
 use Rattle.crawl_audit.specs.declared.open_state.OpenState.{OpenState}
-use Rattle.crawl_audit.specs.declared.numbers.Numbers.{Numbers}
+use Rattle.crawl_audit.specs.declared.numbers.PermitNumbers.{PermitNumbers}
 use Rattle.crawl_audit.specs.declared.numbers.Phase.{Phase}
 use Rattle.crawl_audit.specs.declared.numbers.Phase.TheVariants as phases
 use Rattle.crawl_audit.specs.declared.unread_line.UnreadLine.{UnreadLine}
@@ -70,7 +70,7 @@ abbrev pub is_used : FirstBase → ℕ → Bool
 is_used first turn = is_some (get (λ one other. one == other) first.turns turn)
 
 -- the slot had a grant of this generation or later
-abbrev pub is_granted : Numbers → ℕ → Bool
+abbrev pub is_granted : PermitNumbers → ℕ → Bool
 is_granted numbers number = not (is_above (generation_of number) (lasts_of numbers (slot_of number)))
 
 -- the turn was not read yet and could have begun at this moment

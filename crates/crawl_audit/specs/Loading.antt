@@ -8,11 +8,11 @@ use Rattle.authority_cache.specs.Sites.{Known, arrived, is_flying, site_of, with
 use Rattle.gate_history.specs.declared.base.Numbers.{Numbers as Counts}
 use Rattle.gate_history.specs.declared.base.SlotGrant.{SlotGrant}
 use Rattle.crawl_audit.specs.declared.open_state.OpenState.{OpenState}
-use Rattle.crawl_audit.specs.declared.numbers.Numbers.{Numbers}
+use Rattle.crawl_audit.specs.declared.numbers.PermitNumbers.{PermitNumbers}
 use Rattle.crawl_audit.specs.Tables.{KeepsLast, lasts_of}
 
 -- these numbers, with grants that must rise from now on
-abbrev pub risen : Numbers → Numbers
+abbrev pub risen : PermitNumbers → PermitNumbers
 risen numbers = record numbers { rising = true }
 
 -- this open_state with the numbers of a base
@@ -30,7 +30,7 @@ abbrev pub with_cache : OpenState → Known → OpenState
 with_cache open_state cache = record open_state { cache = cache }
 
 -- this open_state with other numbers of permits
-abbrev pub with_numbers : OpenState → Numbers → OpenState
+abbrev pub with_numbers : OpenState → PermitNumbers → OpenState
 with_numbers open_state numbers = record open_state { numbers = numbers }
 
 -- a turn that began at this moment
@@ -53,7 +53,7 @@ pub record LoadsAnswer (old : OpenState) (authority : List ℕ) (turn begun : �
       (arrived turn answer.says answer.life (site_of between.cache authority)) new.cache
 
 -- the greatest generation of a slot is now this one
-pub record Sets (old : Numbers) (grant : SlotGrant) (new : Numbers) : Type 0 where
+pub record Sets (old : PermitNumbers) (grant : SlotGrant) (new : PermitNumbers) : Type 0 where
   pub lasts : KeepsLast (lasts_of old) grant.slot grant.generation (lasts_of new)
   pub out : new.out ≡ old.out
   pub granted : new.granted ≡ old.granted

@@ -15,7 +15,7 @@ use Rattle.gate_history.specs.Legal.{MayFollow, Rises}
 use Rattle.gate_history.specs.Outstanding.{grants, running, unspent, was_granted}
 use Rattle.gate_history.specs.Standing.{in_flight, standing}
 use Rattle.gate_history.specs.Grants.{IsSlotGrant, ListsEach}
-use Rattle.crawl_audit.specs.declared.numbers.Numbers.{Numbers}
+use Rattle.crawl_audit.specs.declared.numbers.PermitNumbers.{PermitNumbers}
 use Rattle.crawl_audit.specs.declared.numbers.Phase.{Phase}
 use Rattle.crawl_audit.specs.declared.numbers.Phase.TheVariants.{Unspent, Running}
 use Rattle.crawl_audit.specs.declared.open_state.OpenState.{OpenState}
@@ -27,7 +27,7 @@ abbrev pub Phases : Type 0
 Phases = ℕ → Option Phase
 
 -- the phase that the table has for each number
-abbrev pub phases_of : Numbers → Phases
+abbrev pub phases_of : PermitNumbers → Phases
 phases_of numbers number = get (λ one other. one == other) numbers.out number
 
 -- the number has this phase now, and others are unchanged
@@ -64,7 +64,7 @@ abbrev pub Lasts : Type 0
 Lasts = ℕ → Option ℕ
 
 -- the generation that the table has for each slot
-abbrev pub lasts_of : Numbers → Lasts
+abbrev pub lasts_of : PermitNumbers → Lasts
 lasts_of numbers slot = get (λ one other. one == other) numbers.by_slot slot
 
 -- the slot has this greatest generation now, and others are unchanged
@@ -87,29 +87,29 @@ grants_under slot (Some generation) = record { slot = slot; generation = generat
 grants_under slot None = []
 
 -- the number was noted as granted
-abbrev pub is_noted : Numbers → ℕ → Bool
+abbrev pub is_noted : PermitNumbers → ℕ → Bool
 is_noted numbers number = is_some (get (λ one other. one == other) numbers.granted number)
 
 -- the number may be granted: above its slot's greatest generation, or never granted
-abbrev pub is_new : Numbers → ℕ → Bool
+abbrev pub is_new : PermitNumbers → ℕ → Bool
 is_new numbers number =
     if numbers.rising then is_above (generation_of number) (lasts_of numbers (slot_of number))
     else not (is_noted numbers number)
 
 -- the number has this phase now, and nothing else changed
-pub record Puts (old : Numbers) (number : ℕ) (phase : Option Phase) (new : Numbers) : Type 0 where
+pub record Puts (old : PermitNumbers) (number : ℕ) (phase : Option Phase) (new : PermitNumbers) : Type 0 where
   pub phases : KeepsPhase (phases_of old) number phase (phases_of new)
   pub slots : new.by_slot ≡ old.by_slot
   pub granted : new.granted ≡ old.granted
   pub rising : new.rising ≡ old.rising
 
 -- an unspent permit runs now
-abbrev pub StartsRun : Numbers → ℕ → Numbers → Type 0
+abbrev pub StartsRun : PermitNumbers → ℕ → PermitNumbers → Type 0
 StartsRun old number new =
     (fetch : Fetch) → phases_of old number ≡ Some (Unspent fetch) → Puts old number (Some (Running fetch)) new
 
 -- the slot has had the number's generation
-pub record Raises (old : Numbers) (number : ℕ) (new : Numbers) : Type 0 where
+pub record Raises (old : PermitNumbers) (number : ℕ) (new : PermitNumbers) : Type 0 where
   pub fits : IsSlotGrant (record { slot = slot_of number; generation = generation_of number })
   pub lasts : KeepsLast (lasts_of old) (slot_of number)
       (greatest_with (generation_of number) (lasts_of old (slot_of number))) (lasts_of new)
@@ -118,19 +118,19 @@ pub record Raises (old : Numbers) (number : ℕ) (new : Numbers) : Type 0 where
   pub rising : new.rising ≡ old.rising
 
 -- one number more was granted
-abbrev pub AddsNumber : Numbers → ℕ → Numbers → Type 0
+abbrev pub AddsNumber : PermitNumbers → ℕ → PermitNumbers → Type 0
 AddsNumber old number new =
     old.rising ≡ false → (other : ℕ) → is_noted new other ≡ (number == other || is_noted old other)
 
 -- the number is noted
-pub record Notes (old : Numbers) (number : ℕ) (new : Numbers) : Type 0 where
+pub record Notes (old : PermitNumbers) (number : ℕ) (new : PermitNumbers) : Type 0 where
   pub granted : AddsNumber old number new
   pub out : new.out ≡ old.out
   pub slots : new.by_slot ≡ old.by_slot
   pub rising : new.rising ≡ old.rising
 
 -- the number was granted for the fetch
-pub record Grants (old : Numbers) (number : ℕ) (fetch : Fetch) (new : Numbers) : Type 0 where
+pub record Grants (old : PermitNumbers) (number : ℕ) (fetch : Fetch) (new : PermitNumbers) : Type 0 where
   pub phases : KeepsPhase (phases_of old) number (Some (Unspent fetch)) (phases_of new)
   pub lasts : KeepsLast (lasts_of old) (slot_of number)
       (greatest_with (generation_of number) (lasts_of old (slot_of number))) (lasts_of new)
@@ -139,19 +139,19 @@ pub record Grants (old : Numbers) (number : ℕ) (fetch : Fetch) (new : Numbers)
   pub fits : IsSlotGrant (record { slot = slot_of number; generation = generation_of number })
 
 -- the list has each unused permit once
-abbrev pub ListsUnspent : Numbers → List GrantedPermit → Type 0
+abbrev pub ListsUnspent : PermitNumbers → List GrantedPermit → Type 0
 ListsUnspent numbers = ListsPermits (λ number. unspent_under number (phases_of numbers number))
 
 -- the list has each running permit once
-abbrev pub ListsRunning : Numbers → List GrantedPermit → Type 0
+abbrev pub ListsRunning : PermitNumbers → List GrantedPermit → Type 0
 ListsRunning numbers = ListsPermits (λ number. running_under number (phases_of numbers number))
 
 -- the list has each slot's greatest generation once
-abbrev pub ListsGrants : Numbers → List SlotGrant → Type 0
+abbrev pub ListsGrants : PermitNumbers → List SlotGrant → Type 0
 ListsGrants numbers = ListsEach (λ slot. grants_under slot (lasts_of numbers slot))
 
 -- the tables agree with the history on numbers and slots; what is outstanding was granted
-pub record TellsNumbers (numbers : Numbers) (h : History) : Type 0 where
+pub record TellsNumbers (numbers : PermitNumbers) (h : History) : Type 0 where
   pub unspent_are : ListsUnspent numbers (unspent h)
   pub running_are : ListsRunning numbers (running h)
   pub grants_are : ListsGrants numbers (grants h)

@@ -6,7 +6,7 @@ ghost use Rattle.crawl_audit.specs.NextBase.{TellsLeft};
 ghost use Rattle.crawl_audit.specs.Tables.{ListsGrants, ListsRunning, ListsUnspent};
 ghost use Rattle.crawl_audit.specs.Tables.{running_under, unspent_under};
 
-use crate::numbers::{Numbers, Phase};
+use crate::numbers::{PermitNumbers, Phase};
 use crate::open_state::OpenState;
 use gate_history::{LeftOpen, SlotGrant};
 use permit_book::{Fetch, GrantedPermit, PermitNo};
@@ -28,7 +28,7 @@ impl OpenState {
     }
 }
 
-impl Numbers {
+impl PermitNumbers {
     /// The unused permits and those whose fetch runs, each list unordered.
     pub(crate) fn permits(
         &self,

@@ -1,11 +1,11 @@
-//! Loads what a base left open into the open_state, one thing at a time.
+//! Loads what a base left open into an `OpenState`, one thing at a time.
 //! Used by `first_base`; RFC 9309, sections 2.3.1 and 2.4.
 ghost use Rattle.std.specs.Prelude.{◌≡◌, OnOk, is_some};
 ghost use Rattle.crawl_audit.specs.FirstBase.{is_granted};
 ghost use Rattle.crawl_audit.specs.Loading.{LoadsAnswer, LoadsTurn, Sets, counted_from, risen};
 ghost use Rattle.crawl_audit.specs.Tables.{phases_of};
 
-use crate::numbers::Numbers;
+use crate::numbers::PermitNumbers;
 use crate::open_state::OpenState;
 use authority_cache::{TimedAnswer, TurnNo};
 use gate_history::SlotGrant;
@@ -57,7 +57,7 @@ impl OpenState {
     }
 }
 
-impl Numbers {
+impl PermitNumbers {
     /// From now on, each grant must have a generation above all earlier ones of its slot.
     pub(crate) fn rise(&mut self)
         ensures { self.new ≡ risen self.old }

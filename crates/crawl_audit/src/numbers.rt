@@ -21,7 +21,7 @@ pub(crate) enum Phase {
 
 /// The outstanding numbers with their phases, and the granted ones.
 #[derive(Drop)]
-pub(crate) struct Numbers {
+pub(crate) struct PermitNumbers {
     pub(crate) out: IndexMap<u64, Phase, RandomState>,
     // The greatest generation of each slot in which something was granted.
     pub(crate) by_slot: IndexMap<u64, u64, RandomState>,
@@ -31,15 +31,15 @@ pub(crate) struct Numbers {
     pub(crate) granted: IndexMap<u64, (), RandomState>,
 }
 
-impl Numbers {
+impl PermitNumbers {
     /// No number was granted, and any may be.
-    pub(crate) fn new(alloc: Global, keys: RandomState) -> Numbers
+    pub(crate) fn new(alloc: Global, keys: RandomState) -> PermitNumbers
         ensures phases { (number : ℕ) → phases_of result number ≡ None }
         ensures lasts { (slot : ℕ) → lasts_of result slot ≡ None }
         ensures noted { (number : ℕ) → is_noted result number ≡ false }
         ensures any { result.rising ≡ false }
     {
-        Numbers {
+        PermitNumbers {
             out: IndexMap::with_hasher(alloc, keys),
             by_slot: IndexMap::with_hasher(alloc, keys),
             rising: false,

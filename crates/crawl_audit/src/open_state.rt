@@ -12,7 +12,7 @@ ghost use Rattle.crawl_audit.specs.Records.{entry_of};
 ghost use Rattle.crawl_audit.specs.Tables.{EntersLegally, FollowsLegally, KeepsCounts, Tells, TellsAll};
 ghost use Rattle.gate_core.specs.Limits.{greatest_number};
 
-use crate::numbers::Numbers;
+use crate::numbers::PermitNumbers;
 use crate::record::Record;
 use crate::unread_line::UnreadLine;
 use authority_cache::{Cache, TimedAnswer, TurnNo};
@@ -33,7 +33,7 @@ pub(crate) struct OpenState {
     pub(crate) entries: u64,
     pub(crate) started: u64,
     pub(crate) cache: Cache,
-    pub(crate) numbers: Numbers,
+    pub(crate) numbers: PermitNumbers,
 }
 
 impl OpenState {
@@ -49,7 +49,7 @@ impl OpenState {
             started: 0,
             // The authorities of a text are not limited.
             cache: Cache::new(alloc, u64::MAX, keys),
-            numbers: Numbers::new(alloc, keys),
+            numbers: PermitNumbers::new(alloc, keys),
         }
     }
 

@@ -7,8 +7,8 @@ use Rattle.gate_history.specs.declared.outcome.Cause.TheVariants as causes
 use Rattle.gate_history.specs.Wording.{cause_words}
 use Rattle.crawl_job.specs.declared.hop.Refusal.{Refusal}
 use Rattle.crawl_job.specs.declared.hop.Refusal.TheVariants as refusals
-use Rattle.crawl_workers.specs.declared.event.ClosedBy.{ClosedBy}
-use Rattle.command_server.specs.RefusalText.{refusal_word}
+use Rattle.page_worker.specs.declared.event.ClosedBy.{ClosedBy}
+use Rattle.command_lines.specs.RefusalText.{refusal_word}
 use Rattle.crawl_shift.specs.Causes.{denial_phrase, early_end_phrase, refusal_phrase, spaced_words}
 
 pub not_closed : (cause : Cause) (by : Option ClosedBy) → cause ≢ causes.Closed → denial_phrase cause by ≡ spaced_words (cause_words cause)

@@ -7,14 +7,14 @@ use Rattle.path_normal.specs.Capacity.{IsRead}
 use Rattle.path_normal.specs.declared.schemes.Schemes.{Schemes}
 use Rattle.crawl_job.specs.declared.job.Job.{Job}
 use Rattle.counted_io.specs.Lines.{IsDrained}
-use Rattle.command_server.specs.Answers.{AnswersLines}
-use Rattle.command_server.specs.Input.{TakesLines}
-use Rattle.command_server.specs.JobWords.{job_of_among}
-use Rattle.command_server.specs.Session.{Meets, ResultsIn, Session, failures_after_reads}
-use Rattle.command_server.specs.declared.fault.LineFault.{LineFault}
-use Rattle.command_server.specs.declared.fault.LineFault.TheVariants as faults
-use Rattle.command_server.specs.declared.session_fault.SessionFault.{SessionFault}
-use Rattle.command_server.specs.declared.session_fault.SessionFault.TheVariants.{LongLine, Lines, Write}
+use Rattle.command_lines.specs.Answers.{AnswersLines}
+use Rattle.command_lines.specs.Input.{TakesLines}
+use Rattle.command_lines.specs.JobWords.{job_of_among}
+use Rattle.command_lines.specs.Session.{Meets, ResultsIn, Session, failures_after_reads}
+use Rattle.command_lines.specs.declared.fault.LineFault.{LineFault}
+use Rattle.command_lines.specs.declared.fault.LineFault.TheVariants as faults
+use Rattle.command_lines.specs.declared.session_fault.SessionFault.{SessionFault}
+use Rattle.command_lines.specs.declared.session_fault.SessionFault.TheVariants.{LongLine, Lines, Write}
 use Rattle.crawl_shift.specs.declared.job_list.JobList.{JobList}
 use Rattle.crawl_shift.specs.declared.job_list.JobsFault.{JobsFault}
 use Rattle.crawl_shift.specs.declared.job_list.JobsFault.TheVariants as jobs_fault

@@ -16,10 +16,10 @@ use Rattle.http_client.specs.declared.failure.Failure.{Failure}
 use Rattle.http_client.specs.declared.failure.Failure.TheVariants as failures
 use Rattle.crawl_job.specs.declared.hop.Refusal.{Refusal}
 use Rattle.crawl_job.specs.declared.hop.Refusal.TheVariants as refusals
-use Rattle.crawl_workers.specs.declared.event.ClosedBy.{ClosedBy}
-use Rattle.crawl_workers.specs.declared.event.ClosedBy.TheVariants as closings
+use Rattle.page_worker.specs.declared.event.ClosedBy.{ClosedBy}
+use Rattle.page_worker.specs.declared.event.ClosedBy.TheVariants as closings
 use Rattle.line_text.specs.Pieces.{piece_text}
-use Rattle.command_server.specs.RefusalText.{refusal_word}
+use Rattle.command_lines.specs.RefusalText.{refusal_word}
 use Rattle.crawl_shift.specs.declared.causes.CauseWords.{CauseWords}
 
 -- an exceeded time limit, in whole seconds

@@ -3,13 +3,13 @@
 use Rattle.std.specs.Prelude.{◌≡◌, ℕ, List, Option}
 use Rattle.std.specs.Io.KnownBytes.{Appends}
 use Rattle.gate_core.specs.Gate.{Gate, HasLegalHistory}
-use Rattle.gate_lock.specs.Marks.{Receipt}
+use Rattle.gate_marks.specs.Marks.{Receipt}
 use Rattle.gate_lock.specs.Settling.{AreHistory}
 use Rattle.history_text.specs.Exports.{present_segment}
 use Rattle.history_text.specs.SpellBase.{spell_segment}
 use Rattle.crawl_job.specs.declared.job.Job.{Job}
 use Rattle.crawl_workers.specs.Shifts.{IsShift, ReportView}
-use Rattle.crawl_workers.specs.World.{World}
+use Rattle.page_worker.specs.World.{World}
 use Rattle.crawl_shift.specs.JobLists.{AreAllJobs}
 
 -- the receipts are the gate's whole history, with nothing sealed before

@@ -8,13 +8,13 @@ use Rattle.path_normal.specs.declared.schemes.Schemes.{Schemes}
 use Rattle.counted_io.specs.Device.{one_more}
 use Rattle.counted_io.specs.Lines.{IsDrained}
 use Rattle.crawl_job.specs.declared.job.Job.{Job}
-use Rattle.command_server.specs.FaultText.{fault_words}
-use Rattle.command_server.specs.Input.{TakesLines}
-use Rattle.command_server.specs.JobWords.{job_of_among}
-use Rattle.command_server.specs.declared.fault.LineFault.{LineFault}
-use Rattle.command_server.specs.declared.fault.LineFault.TheVariants as faults
-use Rattle.command_server.specs.declared.session_fault.SessionFault.{SessionFault}
-use Rattle.command_server.specs.declared.session_fault.SessionFault.TheVariants as session
+use Rattle.command_lines.specs.FaultText.{fault_words}
+use Rattle.command_lines.specs.Input.{TakesLines}
+use Rattle.command_lines.specs.JobWords.{job_of_among}
+use Rattle.command_lines.specs.declared.fault.LineFault.{LineFault}
+use Rattle.command_lines.specs.declared.fault.LineFault.TheVariants as faults
+use Rattle.command_lines.specs.declared.session_fault.SessionFault.{SessionFault}
+use Rattle.command_lines.specs.declared.session_fault.SessionFault.TheVariants as session
 use Rattle.job_line.specs.Limits.{max_jobs}
 use Rattle.crawl_shift.specs.JobLists.{AddsJob, HasFault, IsTooLong, IsTooMany, MayFail, job_line_limit}
 use Rattle.crawl_shift.specs.declared.job_lines.BadJobLine.{BadJobLine}

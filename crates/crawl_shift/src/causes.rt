@@ -5,7 +5,7 @@ ghost use Rattle.gate_history.specs.Wording.{words_in};
 ghost use Rattle.crawl_shift.specs.Causes.{early_end_phrase, closing_text, denial_phrase, failure_text, wire_fault_phrase, past_text};
 ghost use Rattle.crawl_shift.specs.Causes.{refusal_phrase, spaced_words, stop_phrase, words_text};
 
-use command_server::refusal_word;
+use command_lines::refusal_word;
 use crawl_job::Refusal;
 use crawl_workers::{ClosedBy, Failure};
 use gate_history::{Cause, Wording};

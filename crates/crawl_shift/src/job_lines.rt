@@ -1,10 +1,10 @@
 //! The jobs of a shift, and the lines that can't be read, each with its fault (docs/FORMATS.md, jobs).
 ghost use Rattle.std.specs.Prelude.{◌≡◌, [], IfErr, IfOk, Some, true};
-ghost use Rattle.command_server.specs.Answers.{ends_session};
+ghost use Rattle.command_lines.specs.Answers.{ends_session};
 ghost use Rattle.crawl_shift.specs.JobLines.{AreJobLines, FailsToReadLines, IsLinesFault, LeavesBadly, LeavesWell, MeetsFault, Skips, TakesLine, next_number};
 
 use crate::job_list::{JobList, MAX_JOB_LINE};
-use command_server::{Answerer, Flow, LineFault, SessionFault, run_session};
+use command_lines::{Answerer, Flow, LineFault, SessionFault, run_session};
 use counted_io::{Counted, DeviceFault, Output, Sink, Source};
 use crawl_job::Job;
 use job_line::MAX_JOBS;

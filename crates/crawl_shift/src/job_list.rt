@@ -3,7 +3,7 @@ ghost use Rattle.std.specs.Prelude.{◌≡◌, [], IfErr, IfOk, None};
 ghost use Rattle.path_normal.specs.declared.schemes.Schemes.TheVariants.{Http};
 ghost use Rattle.crawl_shift.specs.JobLists.{AddsJob, AreAllJobs, EndsBadly, EndsWell, FailsToReadJobs, IsJobsFault};
 
-use command_server::{Answerer, Flow, LineFault, SessionFault, read_job_among, run_session};
+use command_lines::{Answerer, Flow, LineFault, SessionFault, read_job_among, run_session};
 use counted_io::{Counted, DeviceFault, Output, Sink, Source};
 use crawl_job::Job;
 use job_line::MAX_JOBS;

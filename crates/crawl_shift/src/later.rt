@@ -1,7 +1,7 @@
 //! A shift over a gate that continues from earlier entries, as one with a journal does.
 ghost use Rattle.std.specs.Prelude.{◌≤◌, IfOk, length, map};
 ghost use Rattle.crawl_workers.specs.Shifts.{IsLaterShift};
-ghost use Rattle.crawl_workers.specs.World.{world_of};
+ghost use Rattle.page_worker.specs.World.{world_of};
 ghost use Rattle.job_line.specs.Limits.{IsCrew, max_jobs};
 
 use crate::both::Both;

@@ -1,7 +1,7 @@
 //! The report of a shift, written during the work: each job's lines follow those of all jobs before it.
 use crate::flushing::{Flushes, Unwritten};
 use crate::report_text::sums;
-use command_server::push_hops;
+use command_lines::push_hops;
 use counted_io::{Counted, DeviceFault, Output, Sink};
 use crawl_job::{Hop, Job, Outcome};
 use crawl_workers::{Crawled, Event, Fetcher, Watcher};

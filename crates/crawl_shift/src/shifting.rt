@@ -2,7 +2,7 @@
 //! `crawlgate shift` runs it over standard input and output.
 ghost use Rattle.std.specs.Prelude.{◌≡◌, ◌≤◌, [], IfOk, IsTrue, OnOk, length};
 ghost use Rattle.crawl_workers.specs.Shifts.{IsShift};
-ghost use Rattle.crawl_workers.specs.World.{world_of};
+ghost use Rattle.page_worker.specs.World.{world_of};
 ghost use Rattle.job_line.specs.Limits.{IsCrew, max_jobs};
 ghost use Rattle.crawl_shift.specs.Histories.{AreWholeHistory, WritesJobs, WritesReceipts, WritesShift};
 

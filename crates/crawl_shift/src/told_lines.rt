@@ -3,11 +3,11 @@ ghost use Rattle.std.specs.Prelude.{◌≡◌, [], flat_map, IfOk};
 ghost use Rattle.counted_io.specs.Output.{Pushes};
 ghost use Rattle.std.specs.Io.KnownBytes.{Appends};
 ghost use Rattle.line_text.specs.Pieces.{pieces_text};
-ghost use Rattle.command_server.specs.FaultText.{fault_words};
+ghost use Rattle.command_lines.specs.FaultText.{fault_words};
 ghost use Rattle.crawl_shift.specs.JobLines.{bad_line_text};
 
 use crate::job_lines::BadJobLine;
-use command_server::{LineFault, refusal_word};
+use command_lines::{LineFault, refusal_word};
 use counted_io::{DeviceFault, Output, Sink};
 use crawl_job::Refusal;
 use line_text::{AsPieces, Piece, Pieces, push_each};

@@ -5,7 +5,7 @@ use Rattle.gate_history.specs.declared.entry.Entry.{Entry}
 use Rattle.crawl_workers.specs.declared.crew.Done.{Done}
 use Rattle.crawl_job.specs.declared.job.Job.{Job}
 use Rattle.crawl_workers.specs.Shifts.{AreDone, IsDone}
-use Rattle.crawl_workers.specs.World.{World}
+use Rattle.page_worker.specs.World.{World}
 
 pub did_more : (world : World) (jobs : List Job) (done : List Done) (last : Done) (own more : List Entry)
     → AreDone world jobs done own → IsDone world jobs last more → AreDone world jobs (done ++ last ∷ []) (own ++ more)

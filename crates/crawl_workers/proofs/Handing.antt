@@ -7,7 +7,7 @@ use Rattle.std.specs.Option.{IsSomeAnd}
 use Rattle.std.proofs.lemmas.List.{length-map, map-append, take_all, take-append-le}
 use Rattle.std.proofs.lemmas.List.Elements.{All-cons, All-head, All-nil, All-tail}
 use Rattle.atomic_table.specs.Seated.{TableId}
-use Rattle.gate_lock.specs.Marks.{Receipt}
+use Rattle.gate_marks.specs.Marks.{Receipt}
 use Rattle.job_line.specs.Covers.{IsNew, SeatView, has_ended, lists_of, parts_of}
 use Rattle.job_line.specs.Limits.{max_workers}
 use Rattle.job_line.specs.Sums.{weigh_all}
@@ -16,7 +16,7 @@ use Rattle.crawl_job.specs.declared.job.Job.{Job}
 use Rattle.crawl_workers.specs.declared.report.ShiftFault.{ShiftFault}
 use Rattle.crawl_workers.specs.Crews.{AreAllDone, EachHasDone, Ends, HandoverView, HandsOver, HasEnded, IsNewWork, MemberView, TakesIn, newcomer}
 use Rattle.crawl_workers.specs.Orders.{weigh_at}
-use Rattle.crawl_workers.specs.World.{World}
+use Rattle.page_worker.specs.World.{World}
 
 -- the end of a worker with these receipts
 abbrev end_of : Receipt → Option (Result Receipt ShiftFault)

@@ -4,7 +4,7 @@ use Rattle.std.proofs.Common.{◌≡◌, ◌∙◌, ℕ, ◌+◌, ◌≤◌, Lis
 use Rattle.std.specs.Prelude.{Ok}
 use Rattle.std.specs.List.{AllZip}
 use Rattle.std.proofs.lemmas.List.{take-append-le, take_all}
-use Rattle.gate_lock.specs.Marks.{Receipt, SealedView, handed_at_all, starts_of_all}
+use Rattle.gate_marks.specs.Marks.{Receipt, SealedView, handed_at_all, starts_of_all}
 use Rattle.gate_lock.specs.Settling.{IsWholeUnlessSealed, SettlesSome}
 use Rattle.gate_lock.specs.declared.settlement.Settled.{Settled}
 use Rattle.job_line.specs.Sums.{weigh_all, weigh_below}
@@ -13,7 +13,7 @@ use Rattle.crawl_job.specs.declared.job.Job.{Job}
 use Rattle.crawl_workers.specs.declared.report.Crawled.{Crawled}
 use Rattle.crawl_workers.specs.Crews.{AllPlaced, EachHasDone, all_numbers, one_below, one_at_number}
 use Rattle.crawl_workers.specs.Shifts.{AreAllJobs, DoneView, IsLaterShift, IsShift, Worked, all_fetches}
-use Rattle.crawl_workers.specs.World.{World}
+use Rattle.page_worker.specs.World.{World}
 use Rattle.crawl_workers.proofs.Placing.{weigh_below-one_for}
 use Rattle.crawl_workers.proofs.StartTotals.{starts_are_fetches}
 

@@ -4,17 +4,17 @@ use Rattle.std.proofs.Common.{◌≡◌, ℕ, zero, suc, ◌+◌, List, [], ◌�
 use Rattle.std.specs.Prelude.{Option, Some, None}
 use Rattle.std.specs.List.{AllZip, slice_get}
 use Rattle.gate_history.specs.declared.entry.Entry.{Entry}
-use Rattle.gate_lock.specs.Marks.{Receipt, SealedView, starts_of_all}
+use Rattle.gate_marks.specs.Marks.{Receipt, SealedView, starts_of_all}
 use Rattle.job_line.specs.Sums.{weigh, weigh_all, weigh_below}
 use Rattle.crawl_job.specs.declared.job.Job.{Job}
 use Rattle.crawl_workers.specs.declared.crew.Done.{Done}
 use Rattle.crawl_workers.specs.declared.report.Crawled.{Crawled}
-use Rattle.crawl_workers.specs.OutcomeLaws.{numbers_started}
-use Rattle.crawl_workers.specs.Outcomes.{fetches_in}
-use Rattle.crawl_workers.specs.Refreshes.{entries_of}
+use Rattle.page_worker.specs.OutcomeLaws.{numbers_started}
+use Rattle.page_worker.specs.Outcomes.{fetches_in}
+use Rattle.page_worker.specs.Refreshes.{entries_of}
 use Rattle.crawl_workers.specs.Shifts.{all_fetches, AreDone, ArePlaced, numbers_of, Worked}
-use Rattle.crawl_workers.specs.World.{World}
-use Rattle.crawl_workers.proofs.Starting.{fetches_counted, outcome_starts, started_append, starts_counted}
+use Rattle.page_worker.specs.World.{World}
+use Rattle.page_worker.proofs.Starting.{fetches_counted, outcome_starts, started_append, starts_counted}
 
 abbrev fetches_of : Option Crawled → ℕ
 fetches_of None = 0

@@ -7,7 +7,7 @@ use Rattle.atomic_table.specs.Seated.{TableId}
 use Rattle.gate_lock.specs.Desks.{DeskView}
 use Rattle.authority_cache.specs.Calls.{one_if}
 use Rattle.gate_history.specs.declared.entry.Entry.{Entry}
-use Rattle.gate_lock.specs.Marks.{Receipt, nothing_sealed}
+use Rattle.gate_marks.specs.Marks.{Receipt, nothing_sealed}
 use Rattle.job_line.specs.Covers.{IsNew, SeatView, ended_at, has_ended, lists_of, parts_of}
 use Rattle.job_line.specs.Limits.{max_workers}
 use Rattle.job_line.specs.Sums.{weigh, weigh_all}
@@ -16,9 +16,9 @@ use Rattle.crawl_job.specs.declared.job.Job.{Job}
 use Rattle.crawl_workers.specs.declared.report.Crawled.{Crawled}
 use Rattle.crawl_workers.specs.declared.report.ShiftFault.{ShiftFault}
 use Rattle.crawl_workers.specs.Orders.{weigh_at}
-use Rattle.crawl_workers.specs.Refreshes.{entries_of}
+use Rattle.page_worker.specs.Refreshes.{entries_of}
 use Rattle.crawl_workers.specs.Shifts.{AreDone, ArePlaced, IsDone, numbers_of}
-use Rattle.crawl_workers.specs.World.{World}
+use Rattle.page_worker.specs.World.{World}
 
 -- a desk did one more job
 abbrev pub DoesJob : World → List Job → Done → DeskView → DeskView → Type 0

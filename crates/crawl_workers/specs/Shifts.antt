@@ -5,16 +5,16 @@ use Rattle.std.specs.Prelude.{◌≡◌, ℕ, ◌+◌, ◌++◌, List, [], ◌�
 use Rattle.std.specs.List.{AllZip, slice_get}
 use Rattle.gate_lock.specs.Settling.{IsWhole, SettlesSome}
 use Rattle.gate_history.specs.declared.entry.Entry.{Entry}
-use Rattle.gate_lock.specs.Marks.{Receipt, nothing_sealed, starts_of_all}
+use Rattle.gate_marks.specs.Marks.{Receipt, nothing_sealed, starts_of_all}
 use Rattle.gate_lock.specs.declared.settlement.Settled.{Settled}
 use Rattle.job_line.specs.Sums.{weigh_all, weigh_below}
 use Rattle.crawl_workers.specs.declared.crew.Done.{Done}
 use Rattle.crawl_job.specs.declared.job.Job.{Job}
 use Rattle.crawl_job.specs.declared.job.Outcome.{Outcome}
 use Rattle.crawl_workers.specs.declared.report.Crawled.{Crawled}
-use Rattle.crawl_workers.specs.Outcomes.{IsOutcome, fetches_in}
-use Rattle.crawl_workers.specs.Refreshes.{entries_of}
-use Rattle.crawl_workers.specs.World.{World}
+use Rattle.page_worker.specs.Outcomes.{IsOutcome, fetches_in}
+use Rattle.page_worker.specs.Refreshes.{entries_of}
+use Rattle.page_worker.specs.World.{World}
 
 -- an outcome with these hops and some body tells what a desk did for a job
 pub record IsDone (world : World) (jobs : List Job) (done : Done) (own : List Entry) : Type 0 where

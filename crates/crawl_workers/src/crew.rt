@@ -3,23 +3,20 @@
 ghost use Rattle.std.specs.Prelude.{◌≡◌, ◌<◌, ◌++◌, ◌∷◌, [], false, IfOk, OnOk, Some, length, true};
 ghost use Rattle.std.specs.List.{slice_get};
 ghost use Rattle.gate_lock.specs.Desks.{KeepsOut, receipt_of};
-ghost use Rattle.gate_lock.specs.Marks.{nothing_sealed};
+ghost use Rattle.gate_marks.specs.Marks.{nothing_sealed};
 ghost use Rattle.job_line.specs.Covers.{ended_at};
 ghost use Rattle.crawl_workers.specs.Crews.{DoesJob, Ends, HasDone, HasEnded, HasWorked, IsAtLine, IsNewWork, StaysAt};
 ghost use Rattle.crawl_workers.specs.Orders.{IsOrder};
-ghost use Rattle.crawl_workers.specs.World.{world_of};
+ghost use Rattle.page_worker.specs.World.{world_of};
 
-use crate::clock::Clock;
-use crate::event::Event;
 use crate::pace::Pace;
 use crate::report::{Crawled, ShiftFault, Watcher};
 use crate::sites::ShiftSites;
-use crate::worker::{EventObserver, Worker};
-use crate::working::work_by;
 use crawl_job::{Job, Outcome};
 use fetchers::Fetcher;
 use gate_lock::{Desk, Gate, GateLock, Receipts};
 use job_line::{JobLine, JobSeat};
+use page_worker::{Clock, Event, EventObserver, work_observed};
 use std::alloc::{AllocError, Global};
 use std::marker::Model;
 use std::sync::Wait;
@@ -309,20 +306,15 @@ impl<F: Fetcher, C: Clock, W: Watcher, P: Pace> Crew<'_, F, C, W, P> {
             (world_of (F.gives self.now.fetcher.now) (F.follows self.now.fetcher.now) (C.reads self.now.clock.now))
             self.now.jobs.now done desk.old desk.new) }
     {
-        let worker = Worker {
+        let notifier = Notifier {
             rt,
-            alloc,
-            fetcher: self.fetcher,
-            clock: self.clock,
-            notes: &Notifier {
-                rt,
-                sites: self.sites,
-                watcher: self.watcher,
-                pace: self.pace,
-                number,
-            },
+            sites: self.sites,
+            watcher: self.watcher,
+            pace: self.pace,
+            number,
         };
-        let outcome = work_by(&worker, job.copy()?, desk)?;
+        let (fetcher, clock) = (self.fetcher, self.clock);
+        let outcome = work_observed(rt, alloc, job.copy()?, desk, fetcher, clock, &notifier)?;
         self.watcher.done(number, job, &outcome);
         if self.sites.pauses() && self.watcher.is_over() {
             self.sites.end_pauses(rt);

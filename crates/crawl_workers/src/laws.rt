@@ -1,29 +1,8 @@
-//! Laws of outcomes, of the limits of jobs, and of the pauses of a shift.
-//! RFC 9309, sections 2.2 and 2.3.1.2.
-ghost use Rattle.std.specs.Prelude.{◌≡◌};
-ghost use Rattle.crawl_workers.specs.Limits.{max_hops, page_limit};
-ghost use Rattle.crawl_workers.specs.OutcomeLaws.{FetchesAreCounted, FetchesAreStarted};
+//! The law of the pauses of a shift; those of outcomes and limits are passed on.
+//! docs/crawlgate.1.md says what a pause is.
 ghost use Rattle.crawl_workers.specs.Pauses.{PausesAreKept};
-ghost use Rattle.crawl_workers.specs.World.{world_of};
 
-use crate::clock::Clock;
-use crate::worker::PAGE_LIMIT;
-use crate::working::MAX_HOPS;
-use fetchers::Fetcher;
-
-/// The limits of jobs are those of the definitions.
-pub fn limits_are()
-    ensures page { PAGE_LIMIT ≡ page_limit }
-    ensures hops { MAX_HOPS ≡ max_hops }
-{}
-
-/// Each page of an outcome was fetched by a permit whose fetch was started for it: the numbers of the
-/// started fetches are those of the pages and faults, in order.
-pub fn fetches_are_started<F: Fetcher, C: Clock>(_fetcher: &F, _clock: &C)
-    ensures started { FetchesAreStarted
-        (world_of (F.gives _fetcher.now) (F.follows _fetcher.now) (C.reads _clock.now)) }
-    ensures counted { FetchesAreCounted }
-{}
+pub use page_worker::laws::{fetches_are_started, limits_are};
 
 /// Among fetches that come to a site with a delay, in any order, each that waits begins no sooner than the
 /// delay after the last begin before it.

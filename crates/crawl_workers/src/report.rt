@@ -1,9 +1,9 @@
 //! The report of a shift of several workers, and why there may be none.
 //! For callers of `run_shift`.
 
-use crate::event::Event;
 use crawl_job::{Hop, Job, Outcome};
 use gate_lock::{DesksFull, Gate, Receipts, SettleFault, Settled};
+use page_worker::Event;
 use std::alloc::AllocError;
 use std::marker::Model;
 

@@ -5,9 +5,8 @@ ghost use Rattle.job_line.specs.Covers.{IsNew, parts_of};
 ghost use Rattle.job_line.specs.Limits.{max_jobs, max_workers};
 ghost use Rattle.crawl_workers.specs.Crews.{AreAllDone, Ends, IsNewWork, MemberView, newcomer, nothing_handed};
 ghost use Rattle.crawl_workers.specs.Shifts.{AreAllJobs, IsLaterShift, IsShift};
-ghost use Rattle.crawl_workers.specs.World.{world_of};
+ghost use Rattle.page_worker.specs.World.{world_of};
 
-use crate::clock::Clock;
 use crate::crew::{Crew, Member, Work};
 use crate::handover::Handover;
 use crate::order::Order;
@@ -19,6 +18,7 @@ use crawl_job::Job;
 use fetchers::Fetcher;
 use gate_lock::{Gate, GateLock, Receipts, settle};
 use job_line::{JobLine, JobSeat, MAX_WORKERS};
+use page_worker::Clock;
 use std::alloc::{AllocError, Global};
 use std::marker::Model;
 use std::sync::Wait;

@@ -41,93 +41,58 @@ use std::time::Duration;
 fn main(rt: HostRuntime) -> ExitCode {
     let ending = match run(&rt) {
         Next::Ends(ending) => ending,
-        Next::Shift(options) => shift(&rt, &rt, options),
+        Next::Shift(options) => match shift(&rt, &rt, options) {
+            Ok(ending) | Err(ending) => ending,
+        },
         Next::Serve(options) => serve(&rt, &rt, options),
     };
     tell_ending(&rt, ending);
     ExitCode::from(ending.status())
 }
 
-// Does a shift. The first handle is for threads, the second for streams.
+// Does a shift, with a progress line if standard error is a watched terminal. The first handle is for
+// threads, the second for streams.
 fn shift<R: Threads + Wait + time::Clock + Sync>(
     rt: &R,
     host: &HostRuntime,
     options: ShiftOptions,
-) -> Ending
+) -> Result<Ending, Ending>
     requires { AreForShift options }
 {
-    if let Err(ending) = find_tls_program(host, options.tls_by, options.times.connect) {
-        return ending;
-    }
-    match new_fetcher(
+    find_tls_program(host, options.tls_by, options.times.connect)?;
+    let Ok(fetcher) = new_fetcher(
         host,
         options.times,
         options.reach,
         options.tls_by,
         &options.contact,
-    ) {
-        Ok(fetcher) => {
-            let clock = SystemClock::new(*host);
-            shift_by(rt, host, options, &fetcher, &clock)
-        }
-        Err(_) => Ending::NoMemory,
-    }
-}
-
-// Does it from the gate's beginning.
-fn shift_by<F: Fetcher + Sync, C: Clock + Sync, R: Threads + Wait + time::Clock + Sync>(
-    rt: &R,
-    host: &HostRuntime,
-    options: ShiftOptions,
-    fetcher: &F,
-    clock: &C,
-) -> Ending
-    requires { AreForShift options }
-{
-    match open_journal(host, &options.journal) {
-        Ok(journal) => match begin_with(host, options.limits, &journal) {
-            Ok(begun) => shift_shown(rt, host, &options, begun, journal, fetcher, clock),
-            Err(ending) => ending,
-        },
-        Err(ending) => ending,
-    }
-}
-
-// Does it with a progress line, if standard error is a watched terminal.
-fn shift_shown<F: Fetcher + Sync, C: Clock + Sync, R: Threads + Wait + time::Clock + Sync>(
-    rt: &R,
-    host: &HostRuntime,
-    options: &ShiftOptions,
-    begun: JournalStart,
-    journal: Option<OpenJournal<'_>>,
-    fetcher: &F,
-    clock: &C,
-) -> Ending
-    requires workers { IsCrew options.now.workers }
-    requires book { IsIdle begun.book }
-{
+    ) else {
+        return Err(Ending::NoMemory);
+    };
+    let clock = SystemClock::new(*host);
+    let journal = open_journal(host, &options.journal)?;
+    let begun = begin_with(host, options.limits, &journal)?;
     let mut errors = Counted::new(host.stderr());
     let sink = if is_watched(host) {
         Some(&mut errors)
     } else {
         None
     };
-    match StatusLine::new(rt, host.alloc(), sink) {
-        Ok(status) => {
-            let blanks = Blanks::new();
-            shift_told::<Brand, _, _, _, _>(
-                rt, host, options, begun, journal, blanks, &status, fetcher, clock,
-            )
-        }
-        Err(_) => Ending::NoMemory,
-    }
+    let Ok(status) = StatusLine::new(rt, host.alloc(), sink) else {
+        return Err(Ending::NoMemory);
+    };
+    let blanks = Blanks::new();
+    shift_jobs::<Brand, _, _, _, _>(
+        rt, host, &options, begun, journal, blanks, &status, &fetcher, &clock,
+    )
 }
 
 fn is_watched(host: &HostRuntime) -> bool {
     host.stderr().is_terminal() && !host.stdout().is_terminal()
 }
 
-fn shift_told<
+// Does the jobs on standard input from a gate's beginning.
+fn shift_jobs<
     G: Gate + Send + Sync,
     E: Sink + Send,
     F: Fetcher + Sync,
@@ -143,11 +108,16 @@ fn shift_told<
     status: &StatusLine<'_, E, R>,
     fetcher: &F,
     clock: &C,
-) -> Ending
+) -> Result<Ending, Ending>
     requires workers { IsCrew options.now.workers }
     requires book { IsIdle begun.book }
     requires blanks { blanks ≡ G.ledgers }
 {
+    let JournalStart { book, sites } = begun;
+    let (gate, receipts) = GateLock::<G>::resume(host.alloc(), book, blanks);
+    let past = Past { receipts, sites };
+    let lines = read_jobs(host, fetcher, options.bad_jobs)?;
+    tell_lines(host, lines.bad.as_slice());
     let shift = Shift {
         rt,
         alloc: host.alloc(),
@@ -157,26 +127,15 @@ fn shift_told<
         clock,
         status,
     };
-    let JournalStart { book, sites } = begun;
-    let (gate, receipts) = GateLock::<G>::resume(shift.alloc, book, blanks);
-    let past = Past { receipts, sites };
-    match read_jobs(host, fetcher, options.bad_jobs) {
-        Ok(lines) => {
-            tell_lines(host, lines.bad.as_slice());
-            let jobs = lines.jobs.as_slice();
-            let ending = match journal {
-                Some(journal) => {
-                    shift_recorded(host, &shift, jobs, &gate, past, journal, options.told)
-                }
-                None => do_jobs(host, &shift, jobs, &gate, options.told),
-            };
-            match ending {
-                // Skipped lines were reported already.
-                Ending::Done if !lines.bad.is_empty() => Ending::BadLine,
-                ending => ending,
-            }
-        }
-        Err(ending) => ending,
+    let jobs = lines.jobs.as_slice();
+    let ending = match journal {
+        Some(journal) => shift_recorded(host, &shift, jobs, &gate, past, journal, options.told),
+        None => do_jobs(host, &shift, jobs, &gate, options.told),
+    };
+    match ending {
+        // Skipped lines were reported already.
+        Ending::Done if !lines.bad.is_empty() => Ok(Ending::BadLine),
+        ending => Ok(ending),
     }
 }
 

@@ -1,10 +1,6 @@
-pub mod Condensing
 pub mod Counting
 pub mod Denying
 pub mod Holding
-pub mod Keeping
-pub mod Merging
-pub mod Ranging
 pub mod Replying
 pub mod Starts
 pub mod Whole

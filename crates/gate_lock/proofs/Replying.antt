@@ -13,10 +13,10 @@ use Rattle.gate_core.specs.declared.refusal.AskRefusal.TheVariants as ask
 use Rattle.gate_core.specs.declared.refusal.Denial.{Denial}
 use Rattle.gate_core.specs.Gate.{Adds, Gate, history}
 use Rattle.gate_core.specs.Replies.{Asks, moment_at, Starts}
-use Rattle.gate_lock.specs.declared.mark.Mark.{Mark}
+use Rattle.gate_marks.specs.declared.mark.Mark.{Mark}
 use Rattle.gate_lock.specs.declared.round.Last.{Last}
 use Rattle.gate_lock.specs.Desks.{DeskView, Looks}
-use Rattle.gate_lock.specs.Marks.{mark_at}
+use Rattle.gate_marks.specs.Marks.{mark_at}
 use Rattle.gate_lock.specs.Results.{IsLastEntry, is_denial}
 use Rattle.gate_lock.specs.Steps.{DeskAsks}
 

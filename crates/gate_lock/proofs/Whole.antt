@@ -6,8 +6,9 @@ use Rattle.gate_history.specs.Base.{Base, empty_base}
 use Rattle.gate_history.specs.History.{followed_by, from, started_count}
 use Rattle.gate_history.specs.Legal.{IsLegal}
 use Rattle.gate_core.specs.Gate.{Gate, HasLegalHistory}
-use Rattle.gate_lock.specs.Marks.{Receipt}
-use Rattle.gate_lock.specs.Settling.{IsSettled, IsWholeUnlessSealed, MarksFit, NothingOut, Settles}
+use Rattle.gate_marks.specs.Fitting.{MarksFit}
+use Rattle.gate_marks.specs.Marks.{Receipt}
+use Rattle.gate_lock.specs.Settling.{IsSettled, IsWholeUnlessSealed, NothingOut, Settles}
 use Rattle.gate_lock.specs.declared.settlement.Settled.{Settled}
 use Rattle.gate_lock.specs.declared.settlement.SettleFault.{SettleFault}
 use Rattle.gate_lock.proofs.Counting.{counted}

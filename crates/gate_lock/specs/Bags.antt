@@ -1,6 +1,6 @@
 -- A bag as contracts see it, and what its calls do to it and its desk.
 -- Cited by `Bag` and the keepers of sessions.
-use Rattle.std.specs.Prelude.{◌≡◌, ℕ, ◌+◌, ◌==◌, ◌&&◌, Bool, true, false, MatchBool, List, [], ◌∷◌, ◌++◌, length, slice_get, Option, Some, None, Result, Ok, Err}
+use Rattle.std.specs.Prelude.{◌≡◌, ℕ, ◌+◌, ◌==◌, ◌&&◌, Bool, true, false, MatchBool, List, [], ◌∷◌, length, Option, Some, None, Result, Ok, Err}
 use Rattle.std.specs.List.{list_any}
 use Rattle.std.specs.List.Sorted.{IsPermutation}
 use Rattle.std.specs.Str.{bytes_eq}
@@ -8,29 +8,8 @@ use Rattle.permit_book.specs.declared.refusal.NotOut.{NotOut}
 use Rattle.gate_history.specs.declared.outcome.Cause.TheVariants.{Spent}
 use Rattle.gate_history.specs.declared.outcome.Reason.{Reason}
 use Rattle.gate_core.specs.declared.refusal.Denial.{Denial}
-use Rattle.gate_lock.specs.declared.store.Spot.{Spot}
-use Rattle.gate_lock.specs.declared.store.Spot.TheVariants as spots
 use Rattle.gate_lock.specs.Desks.{DeskView, out_of, Pass, Run}
 use Rattle.gate_lock.specs.Steps.{DeskFinishes, DeskReturns, DeskStarts, Somewhere}
-
--- the values found by number: the first of each number, the others, and how many more fit without growth
-pub record StoreView (X : Type 0) : Type 0 where
-  pub first : List X
-  pub twins : List X
-  pub room : ℕ
-
--- all of them
-abbrev pub kept_in : {X : Type 0} → StoreView X → List X
-kept_in s = s.first ++ s.twins
-
--- what is kept at a spot
-abbrev pub kept_at : {X : Type 0} → StoreView X → Spot → Option X
-kept_at s (spots.First place) = slice_get s.first place
-kept_at s (spots.Twin place) = slice_get s.twins place
-
--- the value has the number and passes the test
-abbrev pub is_sought : {X : Type 0} → (X → ℕ) → (X → Bool) → ℕ → X → Bool
-is_sought named accepts number x = (named x == number) && accepts x
 
 -- one desk's permits and fetches that may be made, in any order, and how many more permits fit without growth
 pub record BagView : Type 0 where

@@ -7,8 +7,8 @@ use Rattle.gate_history.specs.declared.outcome.Reason.{Reason}
 use Rattle.gate_history.specs.History.{entry_count}
 use Rattle.gate_core.specs.declared.config.Limits.{Limits}
 use Rattle.gate_core.specs.Gate.{Gate, HasLegalHistory, history}
-use Rattle.gate_lock.specs.declared.mark.Mark.{Mark}
-use Rattle.gate_lock.specs.Marks.{AreSealed, Receipt, SealedView, mark_at, nothing_sealed, sealed_with, starts_in, with_handed}
+use Rattle.gate_marks.specs.declared.mark.Mark.{Mark}
+use Rattle.gate_marks.specs.Marks.{AreSealed, Receipt, SealedView, mark_at, nothing_sealed, sealed_with, starts_in, with_handed}
 
 -- a permit or a made fetch: number, token and URL, and the desk that must spend it
 pub record Pass : Type 0 where

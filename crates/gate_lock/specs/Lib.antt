@@ -2,9 +2,7 @@
 -- RFC 9309, sections 2.3.1 and 2.4.
 pub mod Balance
 pub mod Results
-pub mod Marks
 pub mod Past
-pub mod Places
 pub mod Desks
 pub mod Awaiting
 pub mod Steps

@@ -3,15 +3,16 @@
 ghost use Rattle.std.specs.Prelude.{◌≡◌, ◌+◌, ◌<◌, [], false, IfErr, IfNone, IfOk, IfSome, length, OnErr, OnOk, IsOk};
 ghost use Rattle.std.specs.List.{All};
 ghost use Rattle.std.specs.Option.{option_copied};
-ghost use Rattle.gate_lock.specs.Bags.{BagFinishes, BagReturns, BagStarts, Clears, FinishesEach, has_permit, held_in, HoldsSame, IsCleared, IsUrlIn, KeepsBalance, KeepsPermit, kept_in, LosesPermit, ReturnsEach};
+ghost use Rattle.gate_lock.specs.Bags.{BagFinishes, BagReturns, BagStarts, Clears, FinishesEach, has_permit, held_in, HoldsSame, IsCleared, IsUrlIn, KeepsBalance, KeepsPermit, LosesPermit, ReturnsEach};
 ghost use Rattle.gate_lock.specs.Desks.{out_of};
+ghost use Rattle.numbered_store.specs.Stores.{kept_in};
 
 use crate::desk::Desk;
 use crate::ledgers::Gate;
 use crate::linear_values::{Permit, Running};
-use crate::store::{Numbered, Sought, Store};
 use gate_core::Denial;
 use gate_history::{Cause, Reason};
+use numbered_store::{Numbered, Sought, Store};
 use path_normal::PageUrl;
 use permit_book::{NotOut, PermitNo};
 use robots_text::Token;
@@ -32,7 +33,8 @@ pub struct Bag<G: Gate> {
 impl<G: Gate> Model for Bag<G> {
     ghost use Rattle.std.specs.Prelude.{◌≡◌, ◌≤◌, ◌-◌, length, min};
     ghost use Rattle.std.specs.List.{All};
-    ghost use Rattle.gate_lock.specs.Bags.{BagView, kept_in};
+    ghost use Rattle.gate_lock.specs.Bags.{BagView};
+    ghost use Rattle.numbered_store.specs.Stores.{kept_in};
 
     ghost Value = { BagView };
 

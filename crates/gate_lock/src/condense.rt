@@ -5,7 +5,7 @@ ghost use Rattle.gate_lock.specs.Steps.{Somewhere};
 
 use crate::desk::Desk;
 use crate::ledgers::Gate;
-use crate::mark::count_below;
+use gate_marks::count_below;
 use std::sync::Wait;
 
 #[tactic(auto)]

@@ -12,14 +12,19 @@ ghost use Rattle.gate_lock.specs.Past.{past_of};
 use crate::awaited::Awaited;
 use crate::ledgers::{Blanks, Gate};
 use crate::linear_values::Permit;
-use crate::mark::SealedMarks;
 use crate::receipts::Receipts;
 use crate::round::Round;
 use crate::tally::Tally;
 use gate_core::{Book, Limits};
+use gate_marks::SealedMarks;
 use std::alloc::Global;
+use std::hint::spin_loop;
 use std::marker::Model;
 use std::sync::{Condvar, Mutex, MutexGuard, Wait};
+
+// How often the lock is tried before its caller sleeps. It is held for about a microsecond, and a sleep
+// takes tens of these.
+const TRIES: usize = 200;
 
 /// A book under a lock, with the ledgers of what is out.
 #[derive(Drop)]
@@ -153,7 +158,7 @@ impl<G: Gate> GateLock<G> {
         ensures met { IsMet awaited.now (history result) }
     {
         let limits = self.limits;
-        let round = self.round.lock(rt);
+        let round = self.take(rt);
         let guard = self.moved.wait_while(rt, round, |round| {
             let book = round.book();
             book.limits() != limits || book.entry_count() < seen || !awaited.is_met(book)
@@ -161,6 +166,18 @@ impl<G: Gate> GateLock<G> {
         let held = Held { guard };
         let _legal = held.book();
         held
+    }
+
+    // The guard of the lock. It is tried for a while even if others sleep, unlike by `Mutex::lock`: as soon as
+    // one sleeps, every later caller would.
+    fn take<R: Wait>(&self, rt: &R) -> MutexGuard<'_, Round<G>> {
+        for _ in 0..TRIES {
+            if let Some(round) = self.round.try_lock() {
+                return round;
+            }
+            spin_loop();
+        }
+        self.round.lock(rt)
     }
 
     // Wakes all callers that wait until a turn is over.

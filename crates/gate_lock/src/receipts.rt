@@ -1,15 +1,13 @@
 //! The receipts of a closed desk.
 //! A gate is settled with the receipts of all its desks.
-ghost use Rattle.std.specs.Prelude.{◌≡◌, ◌-◌, ◌<◌, ◌≤◌, ◌↔◌, IfSome, IsTrue};
-ghost use Rattle.std.specs.List.{slice_get};
-ghost use Rattle.std.specs.Option.{option_map};
-ghost use Rattle.gate_lock.specs.Marks.{starts_of};
-ghost use Rattle.gate_lock.specs.Settling.{Agrees, AgreesFrom};
+ghost use Rattle.std.specs.Prelude.{◌≡◌, ◌↔◌, IsTrue};
+ghost use Rattle.gate_marks.specs.Fitting.{Agrees};
+ghost use Rattle.gate_marks.specs.Marks.{starts_of};
 
 use crate::ledgers::Gate;
-use crate::mark::{Mark, SealedMarks, starts_among};
 use crate::shares::Mine;
-use gate_history::{Entry, Segment};
+use gate_history::Segment;
+use gate_marks::{Mark, MarkList, SealedMarks, marks_agree, starts_among};
 use std::marker::Model;
 
 /// The marks of a closed desk, oldest first, and what it kept of sealed entries before them; or what is
@@ -23,7 +21,7 @@ pub struct Receipts<G: Gate> {
 
 impl<G: Gate> Model for Receipts<G> {
     ghost use Rattle.std.specs.Prelude.{length, ◌+◌, ◌≡◌};
-    ghost use Rattle.gate_lock.specs.Marks.{Receipt, starts_in};
+    ghost use Rattle.gate_marks.specs.Marks.{Receipt, starts_in};
 
     ghost Value = { Receipt };
 
@@ -77,35 +75,22 @@ impl<G: Gate> Receipts<G> {
     pub fn agrees(&self, segment: &Segment) -> bool
         ensures { IsTrue result ↔ Agrees segment.now self.now.marks }
     {
-        let sealed = segment.base().entries();
-        let entries = segment.entries();
-        let mut rest = self.marks.as_slice();
-        while let [mark, after @ ..] = rest {
-            if !agrees_at(sealed, entries, mark) {
-                return false;
-            }
-            rest = after;
-        }
-        true
+        marks_agree(segment, self.marks.as_slice())
     }
 }
 
-// Whether the mark is the entry at its place, or its place is not among these entries, which follow
-// `sealed` others.
-pub(crate) fn agrees_at(sealed: u64, entries: &[Entry], mark: &Mark) -> bool
-    ensures { IsTrue result ↔ AgreesFrom sealed entries.now mark.now }
-{
-    match entry_at(sealed, entries, mark.place) {
-        Some(entry) => mark.entry.is(entry),
-        None => true,
-    }
-}
+impl<G: Gate> MarkList for Receipts<G> {
+    ghost receipt = { λ receipts. receipts };
 
-fn entry_at(sealed: u64, entries: &[Entry], place: u64) -> Option<&Entry>
-    ensures below { place < sealed → IfSome result (λ _. ⊥) }
-    ensures there { sealed ≤ place → option_map (λ entry. entry.now) result
-        ≡ slice_get entries.now (place - sealed) }
-{
-    let index = place.checked_sub(sealed)?;
-    entries.get(index as usize)
+    fn first_places(&self) -> u64 {
+        self.sealed.before()
+    }
+
+    fn sealed_places(&self) -> &[u64] {
+        self.sealed.places()
+    }
+
+    fn later_marks(&self) -> &[Mark] {
+        self.marks.as_slice()
+    }
 }

@@ -1,7 +1,7 @@
 //! `settle`: the end of a gate, when all its desks are closed.
 //! Nothing is out, and the receipts are the whole history. For programs that end a gate of several threads.
 ghost use Rattle.std.specs.Prelude.{◌≡◌, IfOk};
-ghost use Rattle.gate_lock.specs.Marks.{starts_of_all};
+ghost use Rattle.gate_marks.specs.Marks.{starts_of_all};
 ghost use Rattle.gate_lock.specs.Settling.{IsWholeUnlessSealed, Settles, SettlesSome};
 
 use crate::fit::receipts_fit;

@@ -1,6 +1,6 @@
 //! Whether receipts have as many started fetches as a history, and handed out all that was sealed.
 ghost use Rattle.std.specs.Prelude.{◌≡◌, ◌↔◌, IsTrue};
-ghost use Rattle.gate_lock.specs.Marks.{handed_at_all, starts_of_all};
+ghost use Rattle.gate_marks.specs.Marks.{handed_at_all, starts_of_all};
 
 use crate::ledgers::Gate;
 use crate::receipts::Receipts;

@@ -8,8 +8,8 @@ use Rattle.http_wire.specs.declared.body.Body.{Body}
 use Rattle.http_wire.specs.declared.body_decoder.BodyDecoder.{BodyDecoder}
 use Rattle.http_wire.specs.declared.body_decoder.BodySeen.{BodySeen}
 use Rattle.http_wire.specs.declared.body_decoder.BodySeen.TheVariants.{Given, Full, More}
-use Rattle.http_wire.specs.declared.body_decoder.Form.{Form}
-use Rattle.http_wire.specs.declared.body_decoder.Form.TheVariants as forms
+use Rattle.http_wire.specs.declared.body_decoder.FramedBody.{FramedBody}
+use Rattle.http_wire.specs.declared.body_decoder.FramedBody.TheVariants as forms
 use Rattle.http_wire.specs.declared.chunked.ChunkDecoder.{ChunkDecoder}
 use Rattle.http_wire.specs.declared.fault.WireFault.{WireFault}
 use Rattle.http_wire.specs.declared.fault.WireFault.TheVariants.{BadChunk, NoMemory}
@@ -19,7 +19,7 @@ use Rattle.http_wire.specs.declared.framing.Framing.TheVariants.{Counted, Chunke
 -- ---- the decoder
 
 -- the framing of this form of decoding
-abbrev pub framing_by : Form → Framing
+abbrev pub framing_by : FramedBody → Framing
 framing_by (forms.Counted size) = Counted size
 framing_by (forms.Chunked chunks) = Chunked
 framing_by forms.ToEnd = ToEnd
@@ -35,15 +35,15 @@ pub record ChunksStand (limit start : ℕ) (chunks : ChunkDecoder) (bytes : List
   pub stands : Stands chunks bytes
 
 -- the decoded part agrees with the bytes
-abbrev pub FormStands : ℕ → ℕ → Form → List ℕ → Type 0
-FormStands limit start (forms.Counted size) bytes = ⊤
-FormStands limit start (forms.Chunked chunks) bytes = ChunksStand limit start chunks bytes
-FormStands limit start forms.ToEnd bytes = ⊤
+abbrev pub FramedBodyStands : ℕ → ℕ → FramedBody → List ℕ → Type 0
+FramedBodyStands limit start (forms.Counted size) bytes = ⊤
+FramedBodyStands limit start (forms.Chunked chunks) bytes = ChunksStand limit start chunks bytes
+FramedBodyStands limit start forms.ToEnd bytes = ⊤
 
 -- the body begins among the bytes, which agree with the decoder's state
 pub record BodyStands (decoder : BodyDecoder) (bytes : List ℕ) : Type 0 where
   pub within : decoder.start ≤ length bytes
-  pub form : FormStands decoder.limit decoder.start decoder.form bytes
+  pub form : FramedBodyStands decoder.limit decoder.start decoder.form bytes
 
 -- its framing, its start and its limit stay
 pub record KeepsBody (old new : BodyDecoder) : Type 0 where

@@ -19,7 +19,7 @@ use std::alloc::Global;
 
 /// A body by its framing, as far as it is decoded.
 #[derive(Drop)]
-enum Form {
+enum FramedBody {
     /// A known number of octets.
     Counted(u64),
     /// Chunks.
@@ -44,7 +44,7 @@ pub(crate) enum BodySeen {
 pub(crate) struct BodyDecoder {
     start: usize,
     limit: usize,
-    form: Form,
+    form: FramedBody,
 }
 
 impl BodyDecoder {
@@ -56,9 +56,9 @@ impl BodyDecoder {
         ensures stands { (bytes : List ℕ) → start ≤ length bytes → BodyStands result bytes }
     {
         let form = match framing {
-            Framing::Counted(size) => Form::Counted(size),
-            Framing::Chunked => Form::Chunked(ChunkDecoder::new(alloc, start, limit)),
-            Framing::ToEnd => Form::ToEnd,
+            Framing::Counted(size) => FramedBody::Counted(size),
+            Framing::Chunked => FramedBody::Chunked(ChunkDecoder::new(alloc, start, limit)),
+            Framing::ToEnd => FramedBody::ToEnd,
         };
         BodyDecoder { start, limit, form }
     }
@@ -106,9 +106,11 @@ impl BodyDecoder {
             (Refuses (framing_in self.old) self.old.limit (drop self.old.start buffer.old)) }
     {
         match &mut self.form {
-            Form::Counted(size) => { Ok(see_counted(alloc, buffer, self.start, *size, self.limit)) }
-            Form::Chunked(decoder) => see_chunked(alloc, decoder, buffer, last),
-            Form::ToEnd => Ok(see_prefix(alloc, buffer, self.start, self.limit)),
+            FramedBody::Counted(size) => {
+                Ok(see_counted(alloc, buffer, self.start, *size, self.limit))
+            }
+            FramedBody::Chunked(decoder) => see_chunked(alloc, decoder, buffer, last),
+            FramedBody::ToEnd => Ok(see_prefix(alloc, buffer, self.start, self.limit)),
         }
     }
 
@@ -122,7 +124,7 @@ impl BodyDecoder {
         ensures count { (failures : ℕ) → failures_after_reading failures result ≡ failures }
     {
         match self.form {
-            Form::ToEnd => {
+            FramedBody::ToEnd => {
                 let len = buffer.octets().len() - self.start;
                 Ok(Body {
                     octets: buffer.hand_out(alloc, self.start, len),

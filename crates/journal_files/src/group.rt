@@ -1,5 +1,5 @@
 //! `GroupJournal`: a journal for several threads; the first to need it writes for all.
-//! The lock of the slot is not held while the chronicle is read, or while anything is written.
+//! The lock of the writer is not held while the chronicle is read, or while anything is written.
 ghost use Rattle.std.specs.Prelude.{◌≡◌, IfOk};
 
 use crate::chronicle::Chronicle;
@@ -15,13 +15,13 @@ use std::sync::{Condvar, Mutex, Wait};
 // What threads share: the journal's writer, unless a thread has it; how many entries may be sent; and its
 // fault, if any.
 #[derive(Drop)]
-struct Slot<S: Shelf> {
+struct SharedWriter<S: Shelf> {
     writer: Option<Writer<S>>,
     reached: u64,
     fault: Option<JournalFault>,
 }
 
-impl<S: Shelf> Slot<S> {
+impl<S: Shelf> SharedWriter<S> {
     // Whether another thread writes, and the target is not reached.
     fn is_awaited(&self, target: u64) -> bool {
         self.fault.is_none() && self.reached < target && self.writer.is_none()
@@ -42,7 +42,7 @@ pub const FILE_OCTETS: u64 = 67_108_864;
 /// A journal for several threads. A clause sees its sync policy.
 #[derive(Drop)]
 pub struct GroupJournal<S: Shelf> {
-    slot: Mutex<Slot<S>>,
+    shared: Mutex<SharedWriter<S>>,
     // Notified when a writer is put back.
     moved: Condvar,
     policy: SyncPolicy,
@@ -58,7 +58,7 @@ impl<S: Shelf> Model for GroupJournal<S> {
 
 // What a thread may do with the journal.
 #[derive(Drop)]
-pub(crate) enum Turn<S: Shelf> {
+pub(crate) enum WriterAccess<S: Shelf> {
     // The files have the target.
     Reached,
     Failed,
@@ -78,7 +78,7 @@ impl<S: Shelf + Drop> GroupJournal<S> {
     {
         let writer = Writer::new(alloc, chronicle, shelf)?;
         Ok(GroupJournal {
-            slot: Mutex::new(Slot {
+            shared: Mutex::new(SharedWriter {
                 reached: writer.place().spelled,
                 writer: Some(writer),
                 fault: None,
@@ -90,16 +90,16 @@ impl<S: Shelf + Drop> GroupJournal<S> {
 
     /// Its fault, if it has failed: failures are final.
     pub fn fault<R: Wait>(&self, rt: &R) -> Option<JournalFault> {
-        self.slot.lock(rt).fault
+        self.shared.lock(rt).fault
     }
 
     /// Waits until the files have all entries that exist now, and a crash keeps them if the policy is
     /// `Always`.
     pub fn come_up<H: Chronicle, R: Wait>(&self, rt: &R, chronicle: &H) -> Result<(), DeviceFault> {
-        match self.take_turn(rt, chronicle.entry_count()) {
-            Turn::Reached => Ok(()),
-            Turn::Failed => Err(DeviceFault),
-            Turn::Taken(writer) => {
+        match self.take_writer(rt, chronicle.entry_count()) {
+            WriterAccess::Reached => Ok(()),
+            WriterAccess::Failed => Err(DeviceFault),
+            WriterAccess::Taken(writer) => {
                 let mut writer = writer;
                 let outcome = writer.come_up(chronicle, self.policy == SyncPolicy::Always);
                 self.put_back(rt, writer, outcome)
@@ -110,10 +110,10 @@ impl<S: Shelf + Drop> GroupJournal<S> {
     /// Waits until a crash keeps all that was written. With the policy `Second`, a server calls it each
     /// second.
     pub fn sync<R: Wait>(&self, rt: &R) -> Result<(), DeviceFault> {
-        match self.take_turn(rt, u64::MAX) {
-            Turn::Reached => Ok(()),
-            Turn::Failed => Err(DeviceFault),
-            Turn::Taken(writer) => {
+        match self.take_writer(rt, u64::MAX) {
+            WriterAccess::Reached => Ok(()),
+            WriterAccess::Failed => Err(DeviceFault),
+            WriterAccess::Taken(writer) => {
                 let mut writer = writer;
                 let outcome = writer.sync();
                 self.put_back(rt, writer, outcome)
@@ -124,7 +124,7 @@ impl<S: Shelf + Drop> GroupJournal<S> {
     /// Whether a new file is due: by entries since the last one, or by octets after the file's beginning,
     /// if more than `FILE_OCTETS` and than the beginning has.
     pub fn is_due<H: Chronicle, R: Wait>(&self, rt: &R, chronicle: &H) -> bool {
-        chronicle.is_due() || self.slot.lock(rt).is_long()
+        chronicle.is_due() || self.shared.lock(rt).is_long()
     }
 
     /// Its sync policy.
@@ -135,20 +135,20 @@ impl<S: Shelf + Drop> GroupJournal<S> {
     }
 
     // Waits until the files have so many entries, or takes the writer.
-    pub(crate) fn take_turn<R: Wait>(&self, rt: &R, target: u64) -> Turn<S> {
-        let slot = self.slot.lock(rt);
-        let mut slot = self
+    pub(crate) fn take_writer<R: Wait>(&self, rt: &R, target: u64) -> WriterAccess<S> {
+        let shared = self.shared.lock(rt);
+        let mut shared = self
             .moved
-            .wait_while(rt, slot, |slot| slot.is_awaited(target));
-        if slot.fault.is_some() {
-            return Turn::Failed;
+            .wait_while(rt, shared, |shared| shared.is_awaited(target));
+        if shared.fault.is_some() {
+            return WriterAccess::Failed;
         }
-        if slot.reached >= target {
-            return Turn::Reached;
+        if shared.reached >= target {
+            return WriterAccess::Reached;
         }
-        match slot.writer.take() {
-            Some(writer) => Turn::Taken(writer),
-            None => Turn::Failed,
+        match shared.writer.take() {
+            Some(writer) => WriterAccess::Taken(writer),
+            None => WriterAccess::Failed,
         }
     }
 
@@ -160,16 +160,16 @@ impl<S: Shelf + Drop> GroupJournal<S> {
         outcome: Result<(), JournalFault>,
     ) -> Result<(), DeviceFault> {
         let result = {
-            let mut slot = self.slot.lock(rt);
-            let slot = &mut *slot;
-            slot.note(writer, outcome)
+            let mut shared = self.shared.lock(rt);
+            let shared = &mut *shared;
+            shared.note(writer, outcome)
         };
         self.moved.notify_all();
         result
     }
 }
 
-impl<S: Shelf + Drop> Slot<S> {
+impl<S: Shelf + Drop> SharedWriter<S> {
     // Takes back the writer and its result.
     fn note(
         &mut self,

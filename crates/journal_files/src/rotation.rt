@@ -5,7 +5,7 @@ ghost use Rattle.journal_files.specs.Writing.{TurnsOver, TurnsOverOrStays};
 
 use crate::chronicle::{Chronicle, Sealer};
 use crate::fault::JournalFault;
-use crate::group::{GroupJournal, Turn};
+use crate::group::{GroupJournal, WriterAccess};
 use crate::shelf::Shelf;
 use crate::writer::Writer;
 use std::sync::Wait;
@@ -22,8 +22,8 @@ impl<S: Shelf + Drop> GroupJournal<S> {
     ) -> K::Sealed
         ensures { K.seals sealer.old result sealer.new }
     {
-        match self.take_turn(rt, u64::MAX) {
-            Turn::Taken(writer) => {
+        match self.take_writer(rt, u64::MAX) {
+            WriterAccess::Taken(writer) => {
                 let mut writer = writer;
                 let sealed = sealer.seal();
                 let outcome = writer.turn_over::<H, K>(chronicle, &sealed);
@@ -31,7 +31,7 @@ impl<S: Shelf + Drop> GroupJournal<S> {
                 let _ = self.put_back(rt, writer, outcome);
                 sealed
             }
-            Turn::Reached | Turn::Failed => sealer.seal(),
+            WriterAccess::Reached | WriterAccess::Failed => sealer.seal(),
         }
     }
 }

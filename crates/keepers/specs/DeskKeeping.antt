@@ -10,13 +10,13 @@ use Rattle.gate_core.specs.declared.state.Standing.{Standing}
 use Rattle.gate_core.specs.declared.state.State.{State}
 use Rattle.gate_lock.specs.Bags.{BagView, Clears, GainsPermit, HoldsSame, IsCleared}
 use Rattle.gate_lock.specs.Desks.{Condenses, DeskView, KeepsOut, Pass, receipt_of}
-use Rattle.gate_lock.specs.Marks.{Receipt}
+use Rattle.gate_marks.specs.Marks.{Receipt}
 use Rattle.gate_lock.specs.Steps.{DeskAsks, DeskReads, DeskSeals, Somewhere}
 use Rattle.crawl_job.specs.declared.job.Job.{Job}
 use Rattle.crawl_job.specs.declared.job.Outcome.{Outcome}
-use Rattle.crawl_workers.specs.Outcomes.{Works}
-use Rattle.crawl_workers.specs.Refreshes.{Refreshes}
-use Rattle.crawl_workers.specs.World.{World}
+use Rattle.page_worker.specs.Outcomes.{Works}
+use Rattle.page_worker.specs.Refreshes.{Refreshes}
+use Rattle.page_worker.specs.World.{World}
 
 -- the desk may have condensed the marks of sealed entries
 abbrev pub MayCondense : DeskView → DeskView → Type 0

@@ -4,7 +4,7 @@ ghost use Rattle.std.specs.Prelude.{◌≡◌, [], IfOk, Some};
 ghost use Rattle.gate_lock.specs.Bags.{held_in};
 ghost use Rattle.gate_lock.specs.Desks.{IsNew, out_of};
 ghost use Rattle.keepers.specs.Bounding.{TellsRefused, are_all};
-ghost use Rattle.crawl_workers.specs.World.{world_of};
+ghost use Rattle.page_worker.specs.World.{world_of};
 ghost use Rattle.keepers.specs.DeskKeeping.{Behind, IsClosed, KeeperAsks, KeeperFetches, KeeperRefreshes, MayCondense};
 
 use crate::answers::standing_answer;
@@ -15,10 +15,11 @@ use crate::newcomers::Newcomers;
 use crate::visits::Visitors;
 use authority_cache::StandingAnswer;
 use crawl_job::{Hop, Job, Outcome, Refusal};
-use crawl_workers::{Clock, Fetcher, refresh, work};
+use fetchers::Fetcher;
 use gate_core::{AskRefusal, BeginRefusal, Denial, NoMemory, Standing, State};
 use gate_history::{Reason, Segment};
 use gate_lock::{Bag, Desk, DesksFull, Gate, GateLock, Receipts};
+use page_worker::{Clock, refresh, work};
 use path_normal::{Authority, PageUrl, Schemes};
 use permit_book::{NotOut, PermitNo};
 use robots_text::Token;
@@ -206,7 +207,7 @@ impl<'a, 'g, G: Gate, F: Fetcher, R: Wait> DeskKeeper<'a, 'g, G, F, R> {
 impl<'a, 'g, G: Gate, F: Fetcher, R: Wait> Keeper for DeskKeeper<'a, 'g, G, F, R> {
     ghost use Rattle.std.specs.Prelude.{◌≡◌, true};
     ghost use Rattle.gate_lock.specs.Bags.{BagFinishes, BagReturns, BagStarts, IsUrlIn};
-    ghost use Rattle.crawl_workers.specs.World.{world_of};
+    ghost use Rattle.page_worker.specs.World.{world_of};
     ghost use Rattle.gate_lock.specs.Desks.{out_of};
     ghost use Rattle.keepers.specs.Bounding.{Bounded, RefusesAsk, RefusesFetch, RefusesRefresh, has_enough};
     ghost use Rattle.keepers.specs.Counting.{AnswersSome, CountsSome};

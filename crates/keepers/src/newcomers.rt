@@ -2,8 +2,7 @@
 //! Used by `DeskKeeper`.
 ghost use Rattle.std.specs.Prelude.{◌≡◌};
 
-use crawl_workers::Fetcher;
-use fetchers::{PageLeave, RobotsLeave};
+use fetchers::{Fetcher, PageLeave, RobotsLeave};
 use gate_core::Standing;
 use gate_lock::{Gate, GateLock};
 use http_client::{Deadline, Failure};

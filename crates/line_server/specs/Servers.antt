@@ -4,7 +4,7 @@ use Rattle.std.specs.Prelude.{◌≡◌, ◌≤◌, ◌++◌, ◌∷◌, [], ℕ
 use Rattle.client_connections.specs.Accepts.{max_connections}
 use Rattle.client_connections.specs.declared.connections.Connections.{Connections}
 use Rattle.client_connections.specs.declared.connections.Connections.TheVariants.{AtMost, Endless}
-use Rattle.gate_lock.specs.Marks.{Receipt}
+use Rattle.gate_marks.specs.Marks.{Receipt}
 use Rattle.gate_lock.specs.Settling.{IsWholeUnlessSealed, SettlesSome}
 use Rattle.gate_lock.specs.declared.settlement.Settled.{Settled}
 use Rattle.job_line.specs.Limits.{max_workers}

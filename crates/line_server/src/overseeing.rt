@@ -8,7 +8,7 @@ use crate::warden::Alarm;
 use client_connections::{AcceptFault, ClientStream, Listener, Waiting, close};
 use command_server::{FirstLine, NumberedClock, serve_overseer};
 use counted_io::{Counted, DeviceFault};
-use crawl_workers::Fetcher;
+use fetchers::Fetcher;
 use gate_lock::{Gate, Receipts};
 use journal_files::Recorder;
 use journal_keepers::{FetchesBehind, RecordedKeeper};

@@ -7,7 +7,7 @@ use crate::recorded::Recorded;
 use crate::server::Server;
 use crate::warden::Alarm;
 use command_server::{FetchClock, NumberedClock};
-use crawl_workers::Fetcher;
+use fetchers::Fetcher;
 use gate_lock::{Gate, Receipts};
 use journal_files::Recorder;
 use journal_keepers::FetchesBehind;

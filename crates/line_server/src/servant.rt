@@ -11,7 +11,7 @@ use client_connections::{
 };
 use command_server::{FirstLine, NumberedClock, serve_from};
 use counted_io::{Counted, DeviceFault};
-use crawl_workers::Fetcher;
+use fetchers::Fetcher;
 use gate_lock::{Gate, Receipts};
 use journal_files::Recorder;
 use journal_keepers::{FetchesBehind, RecordedKeeper};

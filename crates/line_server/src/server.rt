@@ -10,7 +10,7 @@ use crate::servant::Servant;
 use crate::warden::Alarm;
 use client_connections::{Connections, Listener};
 use command_server::NumberedClock;
-use crawl_workers::Fetcher;
+use fetchers::Fetcher;
 use gate_lock::{Gate, GateLock, Receipts, settle};
 use job_line::{JobLine, JobSeat, MAX_WORKERS};
 use journal_files::{Recorder, Unrecorded};

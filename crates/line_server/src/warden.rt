@@ -10,7 +10,7 @@ use crate::fault::ServeFault;
 use crate::recorded::Recorded;
 use crate::server::Server;
 use command_server::{NumberedClock, next_reading};
-use crawl_workers::Fetcher;
+use fetchers::Fetcher;
 use gate_lock::{Desk, Gate, GateLock, Receipts};
 use journal_files::Recorder;
 use std::sync::Wait;

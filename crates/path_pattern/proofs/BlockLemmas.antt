@@ -1,7 +1,7 @@
 -- The lanes left of a block, octet by octet of the literal, and its first place.
 -- Used by the search by blocks.
 use Rattle.std.proofs.Common.{◌^◌, w64, ◌≡◌, ◌≢◌, ◌↔◌, ◌+◌, ◌-◌, ◌<◌, ◌≤◌, ◌==◌, ℕ, Bool, true, false, List, length, get_or, replicate, cond, refl, sym, ap, subst, ◌∙◌, arith, ⊎_elim, ◌⊎◌}
-use Rattle.std.specs.Prelude.{if◌then◌else◌, slice_index, Option, None, Some}
+use Rattle.std.specs.Prelude.{if◌then◌else◌, slice_index, None, Some}
 use Rattle.std.specs.Int.{bit_at}
 use Rattle.std.specs.Simd.Lanes.{sel_l, zip2}
 use Rattle.std.proofs.lemmas.Bool.{cases_lt, cases_eq, eq-eqb, eqb-true, true≢false}

@@ -9,3 +9,4 @@ pub mod SortedLemmas
 pub mod OrderLemmas
 pub mod KeptLemmas
 pub mod Spelling
+pub mod FrontLemmas

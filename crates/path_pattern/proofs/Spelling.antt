@@ -10,16 +10,16 @@ use Rattle.std.proofs.lemmas.Bool.{cases_order, true≢false}
 use Rattle.std.proofs.lemmas.List.{get_or-drop, length-drop, take_all}
 use Rattle.path_pattern.specs.Texts.{AreOctets, spelled_number}
 
-abbrev words : List ℕ → List ℕ → Ordering
+abbrev pub words : List ℕ → List ℕ → Ordering
 words = slice_cmp nat_cmp
 
-later : (octet : ℕ) (text : List ℕ) → AreOctets (octet ∷ text) → AreOctets text
+pub later : (octet : ℕ) (text : List ℕ) → AreOctets (octet ∷ text) → AreOctets text
 later octet text are i = are (suc i)
 
-none : AreOctets []
+pub none : AreOctets []
 none i = omega arith
 
-spell_less : (n a b : ℕ) (p q : List ℕ) → a < b → AreOctets p → AreOctets q → spelled_number n a p < spelled_number n b q
+pub spell_less : (n a b : ℕ) (p q : List ℕ) → a < b → AreOctets p → AreOctets q → spelled_number n a p < spelled_number n b q
 spell_less zero a b p q less are also = less
 spell_less (suc n) a b [] [] less are also = spell_less n (a * 256) (b * 256) [] [] (omega (arith, less)) none none
 spell_less (suc n) a b [] (y ∷ q) less are also = spell_less n (a * 256) (b * 256 + y) [] q (omega (arith, less)) none (later y q also)
@@ -27,18 +27,18 @@ spell_less (suc n) a b (x ∷ p) [] less are also = spell_less n (a * 256 + x) (
 spell_less (suc n) a b (x ∷ p) (y ∷ q) less are also =
     spell_less n (a * 256 + x) (b * 256 + y) p q (let small : x < 256 = are 0 in omega (arith, less, small)) (later x p are) (later y q also)
 
-spell_least : (n a b : ℕ) (q : List ℕ) → a ≤ b → spelled_number n a [] ≤ spelled_number n b q
+pub spell_least : (n a b : ℕ) (q : List ℕ) → a ≤ b → spelled_number n a [] ≤ spelled_number n b q
 spell_least zero a b q less = less
 spell_least (suc n) a b [] less = spell_least n (a * 256) (b * 256) [] (omega (arith, less))
 spell_least (suc n) a b (y ∷ q) less = spell_least n (a * 256) (b * 256 + y) q (omega (arith, less))
 
-is_less : (x y : ℕ) → x < y → nat_cmp x y ≡ Less
+pub is_less : (x y : ℕ) → x < y → nat_cmp x y ≡ Less
 is_less x y less = sym (nat_cmp_is x y Less less)
 
-is_equal : (x y : ℕ) → x ≡ y → nat_cmp x y ≡ Equal
+pub is_equal : (x y : ℕ) → x ≡ y → nat_cmp x y ≡ Equal
 is_equal x y same = sym (nat_cmp_is x y Equal same)
 
-is_greater : (x y : ℕ) → y < x → nat_cmp x y ≡ Greater
+pub is_greater : (x y : ℕ) → y < x → nat_cmp x y ≡ Greater
 is_greater x y less = sym (nat_cmp_is x y Greater less)
 
 pub by_numbers : (n a : ℕ) (p q : List ℕ) → n ≤ length p → n ≤ length q → AreOctets p → AreOctets q →

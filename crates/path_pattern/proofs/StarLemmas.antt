@@ -1,11 +1,11 @@
 -- Whether a literal has no wildcard, octet by octet.
 -- Used by `has_no_star`, and for plain patterns.
-use Rattle.std.proofs.Common.{◌≡◌, ◌<◌, ◌==◌, ℕ, Bool, true, false, not, List, [], ◌∷◌, length, slice_index, slice_index_or, refl, sym, ap, subst, ◌∙◌, arith}
+use Rattle.std.proofs.Common.{◌≡◌, ◌+◌, ◌-◌, ◌<◌, ◌≤◌, ◌==◌, ⊎_elim, drop, ℕ, Bool, true, false, not, List, [], ◌∷◌, length, slice_index, slice_index_or, refl, sym, ap, subst, ◌∙◌, arith}
 use Rattle.std.specs.Prelude.{◌↔◌, IsTrue, Option, Some, None, is_some}
 use Rattle.std.specs.List.{list_all}
-use Rattle.std.proofs.lemmas.Bool.{and_from, and_parts, true≢false}
-use Rattle.std.proofs.lemmas.List.{get_or_default}
-use Rattle.memchr.specs.Find.{IsFirstByte, is_byte}
+use Rattle.std.proofs.lemmas.Bool.{and_from, and_parts, cases_lt, true≢false}
+use Rattle.std.proofs.lemmas.List.{get_or_default, get_or-drop, length-drop}
+use Rattle.memchr.specs.Find.{IsFirstByte, Nowhere, Passes, is_byte}
 use Rattle.std.proofs.lemmas.List.Elements.{All-cons, All-head, All-tail}
 use Rattle.path_normal.specs.Octets.{star}
 use Rattle.path_pattern.specs.Literals.{HasNoStar, has_no_star}
@@ -46,3 +46,32 @@ found_tells literal (Some place) false first is = (
   λ none. absurd (true≢false (sym none)),
   λ none. absurd (true≢false (sym first.1 ∙ none place 0 first.0.high)),
 )
+
+-- ---- the first wildcard, in two parts
+
+module _ (pattern part : List ℕ) (near index : ℕ) (is : part ≡ drop near pattern) (within : near ≤ length pattern) (passed : near ≤ index) (before : Nowhere (Passes (is_byte star) pattern) 0 index) where
+  same_octet : (k : ℕ) → near ≤ k → slice_index part (k - near) ≡ slice_index pattern k
+  same_octet k past =
+      let there : near + (k - near) ≡ k = omega (arith, past) in
+      ap (λ them. slice_index them (k - near)) is ∙ get_or-drop near pattern (k - near) 0 ∙ ap (slice_index pattern) there
+
+  long_part : length part ≡ length pattern - near
+  long_part = ap length is ∙ length-drop near pattern
+
+  none_until : (end : ℕ) → Nowhere (Passes (is_byte star) part) 0 end → Nowhere (Passes (is_byte star) pattern) 0 (near + end)
+  none_until end none k low high passes =
+      ⊎_elim
+      (λ under. before k low (omega (arith, under, passed)) passes)
+      (λ past. none (k - near) (omega arith) (omega (arith, past, high)) (ap (is_byte star) (same_octet k past) ∙ passes))
+      (cases_lt k near)
+
+  pub no_later_star : IsFirstByte (is_byte star) part None → IsFirstByte (is_byte star) pattern None
+  no_later_star none k low high passes = none_until (length part) none k low (omega (arith, high, long_part, within)) passes
+
+  pub later_star : (place : ℕ) → IsFirstByte (is_byte star) part (Some place) → IsFirstByte (is_byte star) pattern (Some (near + place))
+  later_star place found =
+      let high = found.0.high in
+      let here : near + place - near ≡ place = omega arith in (
+        record { low = omega arith; high = omega (arith, high, long_part, within); before = none_until place found.0.before },
+        ap (is_byte star) (sym (same_octet (near + place) (omega arith)) ∙ ap (slice_index part) here) ∙ found.1,
+      )

@@ -16,6 +16,12 @@ pub record IsRange (path places literal : List ℕ) (start end : ℕ) : Type 0 w
   pub within : end ≤ length places
   pub all : (place : ℕ) → OccursAt path literal place ↔ Contains (part places start end) place
 
+-- all the places where the literal occurs are between the indices
+pub record IsAmong (path places literal : List ℕ) (low high : ℕ) : Type 0 where
+  pub order : low ≤ high
+  pub within : high ≤ length places
+  pub all : (place : ℕ) → OccursAt path literal place → Contains (part places low high) place
+
 -- the bit of the place
 abbrev pub mark : List ℕ → ℕ → ℕ
 mark marks place = bit_at (slice_index marks (place / 64)) (place % 64)

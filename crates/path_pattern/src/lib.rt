@@ -3,6 +3,7 @@
 #![tactic(auto)]
 
 mod blocks;
+mod fronts;
 mod kept;
 pub mod laws;
 mod literals;
@@ -10,6 +11,7 @@ mod order;
 mod path;
 mod pattern;
 mod ranks;
+mod slots;
 mod suffix_array;
 mod texts;
 

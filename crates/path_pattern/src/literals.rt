@@ -51,10 +51,20 @@ pub(crate) fn split_at_star(pattern: &[u8]) -> Option<(&[u8], &[u8])>
     }
 }
 
+// A literal mostly has no more octets. Finding a wildcard there by `memchr` takes longer.
+const NEAR: usize = 10;
+
 fn star_place(pattern: &[u8]) -> Option<usize>
     ensures { IsFirstByte (is_byte star) pattern.now result }
 {
-    memchr(b'*', pattern)
+    let near = pattern.len().min(NEAR);
+    for index in 0..near {
+        if pattern[index] == b'*' {
+            return Some(index);
+        }
+    }
+    let place = memchr(b'*', &pattern[near..])?;
+    Some(near + place)
 }
 
 /// Whether the pattern has no `*`.

@@ -5,8 +5,10 @@ ghost use Rattle.memchr.specs.Find.{FindsNeedle};
 ghost use Rattle.path_pattern.specs.Literals.{IsAfterFirst, StandsNowhere};
 ghost use Rattle.path_pattern.specs.Sorted.{ArePlacesOf};
 
-use crate::kept::{KEPT, MARKED, Marked, NONE, Room, Stand, UNMARKED, first_among};
+use crate::fronts::{Fronts, count_hints, no_fronts, spell_fronts};
+use crate::kept::{Marked, Room, Stand, first_among, forget_marks, forget_stands};
 use crate::literals::first_place;
+use crate::slots::{FIRST_SLOTS, SlotDraw};
 use crate::suffix_array::SuffixArray;
 use std::marker::Model;
 
@@ -16,8 +18,11 @@ pub struct Path<'p, 'k> {
     text: &'p [u8],
     // Its places sorted by suffix, if they were sorted.
     places: &'p [u16],
+    // The first octets of the suffixes there.
+    fronts: Fronts<'k>,
     kept: &'k mut [Stand],
     marked: &'k mut [Marked],
+    draw: SlotDraw,
 }
 
 impl<'p, 'k> Model for Path<'p, 'k> {
@@ -25,12 +30,14 @@ impl<'p, 'k> Model for Path<'p, 'k> {
 
     ghost Value = { List ℕ };
 
+    ghost use Rattle.path_pattern.specs.Fronts.{HasFronts};
     ghost use Rattle.path_pattern.specs.Kept.{AreKept, AreMarked};
     ghost use Rattle.path_pattern.specs.Sorted.{ArePlacesOf};
 
     ghost view = { λ path. path.text.now };
 
     ghost invariant = { λ path. ArePlacesOf path.text.now path.places.now
+        × HasFronts path.text.now path.places.now path.fronts.numbers.now
         × AreKept path.text.now path.places.now path.kept.now
         × AreMarked path.places.now path.marked.now };
 }
@@ -43,8 +50,10 @@ impl<'p, 'k> Path<'p, 'k> {
         Path {
             text,
             places: &[],
+            fronts: no_fronts(),
             kept: &mut [],
             marked: &mut [],
+            draw: FIRST_SLOTS,
         }
     }
 
@@ -53,14 +62,24 @@ impl<'p, 'k> Path<'p, 'k> {
         requires { ArePlacesOf text.now places.now }
         ensures { result ≡ text.now }
     {
-        let Room { stands, marked } = room;
-        *stands = [NONE; KEPT];
-        *marked = [UNMARKED; MARKED];
+        let Room {
+            stands,
+            marked,
+            fronts: numbers,
+            hints,
+        } = room;
+        let places = places.as_slice();
+        forget_stands(stands);
+        forget_marks(marked);
+        spell_fronts(numbers, text, places);
+        count_hints(hints, &numbers[..places.len()]);
         Path {
             text,
-            places: places.as_slice(),
+            places,
+            fronts: Fronts { numbers, hints },
             kept: stands,
             marked,
+            draw: FIRST_SLOTS,
         }
     }
 
@@ -91,11 +110,20 @@ impl<'p, 'k> Path<'p, 'k> {
         ensures finds { FindsNeedle self.old literal.now from result }
         ensures stays { self.new ≡ self.old }
     {
-        let (text, places) = (self.text, self.places);
+        let (text, places, fronts) = (self.text, self.places, self.fronts);
         if places.is_empty() || literal.is_empty() {
             return first_from(text, literal, from);
         }
-        first_among(self.kept, self.marked, text, places, literal, from)
+        first_among(
+            self.kept,
+            self.marked,
+            &mut self.draw,
+            text,
+            places,
+            fronts,
+            literal,
+            from,
+        )
     }
 }
 

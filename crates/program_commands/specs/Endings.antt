@@ -3,8 +3,8 @@
 use Rattle.std.specs.Prelude.{ℕ, List, ◌++◌, Option, Some, None, codes, Result, Ok, Err}
 use Rattle.std.specs.Net.Text.{socket_text}
 use Rattle.std.specs.declared.net.socket_addr.SocketAddr.{SocketAddr}
-use Rattle.command_server.specs.declared.session_fault.SessionFault.{SessionFault}
-use Rattle.command_server.specs.declared.session_fault.SessionFault.TheVariants as faults
+use Rattle.command_lines.specs.declared.session_fault.SessionFault.{SessionFault}
+use Rattle.command_lines.specs.declared.session_fault.SessionFault.TheVariants as faults
 use Rattle.robots_check.specs.declared.fault.TextFault.{TextFault}
 use Rattle.robots_check.specs.declared.fault.TextFault.TheVariants as text_faults
 use Rattle.robots_check.specs.declared.check_outcome.CheckOutcome.{CheckOutcome}

@@ -11,10 +11,10 @@ use Rattle.crawl_audit.specs.Audit.{IsFault}
 use Rattle.crawl_audit.specs.ChainAudit.{IsChainAudited}
 use Rattle.history_text.specs.Exports.{present_segment}
 use Rattle.history_text.specs.SpellBase.{spell_segment}
-use Rattle.command_server.specs.declared.session_fault.SessionFault.{SessionFault}
-use Rattle.command_server.specs.Limits.{max_lines}
-use Rattle.command_server.specs.Replay.{AnswersLineAmong}
-use Rattle.command_server.specs.Session.{Session}
+use Rattle.command_lines.specs.declared.session_fault.SessionFault.{SessionFault}
+use Rattle.command_lines.specs.Limits.{max_lines}
+use Rattle.command_lines.specs.Replay.{AnswersLineAmong}
+use Rattle.command_lines.specs.Session.{Session}
 use Rattle.line_text.specs.Limits.{max_long_line}
 use Rattle.program_commands.specs.declared.ending.Ending.{Ending}
 use Rattle.program_commands.specs.declared.ending.Ending.TheVariants as endings

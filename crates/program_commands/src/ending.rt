@@ -5,7 +5,7 @@ ghost use Rattle.program_commands.specs.Endings.{ending_of, ending_of_check, end
 
 use crate::message::Message;
 use crate::streams::Stream;
-use command_server::SessionFault;
+use command_lines::SessionFault;
 use robots_check::{CheckOutcome, TextFault};
 use std::net::SocketAddr;
 

@@ -9,7 +9,7 @@ use crate::ending::Ending;
 use crate::reasoned::Reasoned;
 use crate::streams::Stream;
 use crate::telling::tell_failed;
-use command_server::replay_among;
+use command_lines::replay_among;
 use counted_io::{Counted, Output, Sink, Source};
 use gate_core::Book;
 use history_text::export;

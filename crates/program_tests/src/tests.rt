@@ -10,7 +10,7 @@ mod lines;
 mod sites;
 mod waiting;
 
-use command_server::{SessionFault, replay};
+use command_lines::{SessionFault, replay};
 use counted_io::FailAt;
 use gate_core::{Book, Config, Limits};
 use std::alloc::{AllocError, Global};

@@ -1,12 +1,12 @@
 //! An input with a robots text and then lines of URLs.
 //! docs/FORMATS.md says where the URLs begin.
 ghost use Rattle.std.specs.Prelude.{◌≡◌, ◌<◌, ◌∷◌, ℕ, List, IfOk, IfSome, IfNone, length, map};
-ghost use Rattle.counted_io.specs.Lines.{IsPart, line_feed, without_cr};
+ghost use Rattle.counted_io.specs.Lines.{line_feed, without_cr};
 ghost use Rattle.robots_check.specs.Input.{AreUrlLines, FollowsEmpty, IsLineLen, IsSplit, TakesUrl, UrlsFollow, begins_http, begins_url};
 ghost use Rattle.robots_check.specs.Targets.{begins_path};
 
 use crate::page::behind_https;
-use memchr::memchr;
+use counted_io::part_len;
 use robots_text::is_same_word;
 use std::alloc::{AllocError, Global};
 
@@ -101,16 +101,6 @@ fn without_cr(raw: &[u8]) -> &[u8]
     match raw {
         [front @ .., b'\r'] => front,
         _ => raw,
-    }
-}
-
-// The octets before the first line feed, or all.
-fn part_len(octets: &[u8]) -> usize
-    ensures { IsPart octets.now result }
-{
-    match memchr(b'\n', octets) {
-        Some(place) => place,
-        None => octets.len(),
     }
 }
 

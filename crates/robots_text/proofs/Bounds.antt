@@ -5,12 +5,12 @@ use Rattle.std.specs.Prelude.{◌==◌, Option, Some, None, codes, if◌then◌e
 use Rattle.std.specs.List.{onto_first, position, before_first, position_or_len, list_all}
 use Rattle.std.proofs.lemmas.List.{length-take, length-drop}
 use Rattle.std.proofs.lemmas.List.Elements.{All-cons, All-nil}
-use Rattle.robots_text.specs.Grouped.{IsWithin, grouped_from, name_octets, value_octets, values_octets}
-use Rattle.robots_text.specs.Grouping.{begins_behind, group_at}
+use Rattle.robots_text.specs.Grouped.{IsWithin, begins_behind, group_at, grouped_from, name_octets, value_octets, values_octets}
 use Rattle.robots_text.specs.Lines.{lines_from}
 use Rattle.robots_text.specs.Records.{everybody, Record, agent, rule, other, ends_token, is_blank, is_colon, is_everybody, is_number_sign, named, named_by, numbered_from, record_at, record_of, trimmed, without_leading, without_trailing}
 use Rattle.robots_text.specs.Words.{is_same_word}
 use Rattle.robots_text.specs.declared.record.RuleKind.TheVariants.{Allow, Disallow}
+use Rattle.robots_text.proofs.GroupLaws.{group_within}
 use Rattle.robots_text.specs.Octets.{carriage_return, line_feed}
 
 -- how many octets the lines have together
@@ -129,17 +129,11 @@ few_grouped text =
     let lines = lines_from false text in
     omega (arith, (as_many 0 true 1 (map record_of lines)).0, length_records lines, (few_lines false text).0)
 
-group_below : (group : ℕ) (begins : Bool) (n : ℕ) (first : Record) → group ≤ n → group_at group begins n first ≤ n
-group_below group true n (agent who) low = omega arith
-group_below group false n (agent who) low = low
-group_below group begins n (rule kind value) low = low
-group_below group begins n other low = low
-
 pub within_from : (most group : ℕ) (begins : Bool) (n : ℕ) (records : List Record) → group ≤ n → n + length records ≤ most + 1 →
     All (IsWithin most) (grouped_from group begins (numbered_from n records))
 within_from most group begins n [] low high = All-nil (IsWithin most)
 within_from most group begins n (first ∷ records) low high =
-    let below = group_below group begins n first low in
+    let below = (group_within group begins n first low).1 in
     All-cons (IsWithin most) _ _ (omega arith, below)
     (within_from most (group_at group begins n first) (begins_behind begins first) (n + 1) records (omega arith) (omega arith))
 

@@ -7,9 +7,6 @@ pub mod Cutting
 pub mod LineLaws
 pub mod KeptLaws
 pub mod LineEntries
-pub mod Reaches
-pub mod Gives
-pub mod Rises
 pub mod Walks
 pub mod Plains
 pub mod Bounds

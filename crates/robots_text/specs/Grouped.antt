@@ -1,9 +1,8 @@
--- Records with their group's number: the line of its first user-agent line.
+-- Records with their group's number: the line of its first user-agent line. The law `same_group` says what it means.
 -- RFC 9309, section 2.2.1.
-use Rattle.std.specs.Prelude.{ℕ, ◌+◌, ◌≤◌, Bool, true, List, [], ◌∷◌, length}
+use Rattle.std.specs.Prelude.{ℕ, ◌+◌, ◌≤◌, Bool, true, false, List, [], ◌∷◌, length, if◌then◌else◌}
 use Rattle.robots_text.specs.declared.grouped.GroupedRecord.{GroupedRecord}
 use Rattle.robots_text.specs.declared.grouped.GroupedRecords.{GroupedRecords}
-use Rattle.robots_text.specs.Grouping.{begins_behind, group_at}
 use Rattle.robots_text.specs.Left.{records_left}
 use Rattle.robots_text.specs.Records.{Named, everybody, token, nobody, Record, agent, rule, other, Numbered, kind_seen, numbered_records}
 
@@ -16,6 +15,18 @@ pub record Grouped : Type 0 where
 -- the record with its line
 abbrev pub numbered_of : Grouped → Numbered
 numbered_of grouped = record { line = grouped.line; kind = grouped.kind }
+
+-- a record's group: the first user-agent line, and each one after a rule line, begins one
+abbrev pub group_at : ℕ → Bool → ℕ → Record → ℕ
+group_at group begins line (agent who) = if begins then line else group
+group_at group begins line (rule kind value) = group
+group_at group begins line other = group
+
+-- whether a user-agent line after the record would begin a group
+abbrev pub begins_behind : Bool → Record → Bool
+begins_behind begins (agent who) = false
+begins_behind begins (rule kind value) = true
+begins_behind begins other = begins
 
 -- the records after those of a group
 abbrev pub grouped_from : ℕ → Bool → List Numbered → List Grouped

@@ -3,7 +3,6 @@
 pub mod Cut
 pub mod Faults
 pub mod Grouped
-pub mod Grouping
 pub mod Groups
 pub mod Left
 pub mod Lines

@@ -1,8 +1,6 @@
 //! The records of a robots text, each with its group.
 //! RFC 9309, section 2.2.1.
 ghost use Rattle.std.specs.Prelude.{◌≡◌};
-ghost use Rattle.robots_text.specs.Grouping.{begins_behind, group_at};
-ghost use Rattle.robots_text.specs.Records.{kind_seen};
 
 use crate::record::RecordKind;
 use crate::records::Records;
@@ -54,33 +52,18 @@ impl<'a> Iterator for GroupedRecords<'a> {
 
     fn next(&mut self) -> Option<GroupedRecord<'a>> {
         let record = self.records.next()?;
-        let group = group_at(self.group, self.begins, record.line, record.kind);
-        self.group = group;
-        self.begins = begins_behind(self.begins, record.kind);
+        match record.kind {
+            RecordKind::Agent(_) if self.begins => {
+                self.group = record.line;
+                self.begins = false;
+            }
+            RecordKind::Rule(_, _) => self.begins = true,
+            RecordKind::Agent(_) | RecordKind::Other => {}
+        }
         Some(GroupedRecord {
-            group,
+            group: self.group,
             line: record.line,
             kind: record.kind,
         })
-    }
-}
-
-fn group_at(group: u64, begins: bool, line: u64, kind: RecordKind<'_>) -> u64
-    ensures { result ≡ group_at group begins line (kind_seen kind.entry) }
-{
-    match kind {
-        RecordKind::Agent(_) if begins => line,
-        _ => group,
-    }
-}
-
-// Whether a user-agent line after the record would begin a group.
-fn begins_behind(begins: bool, kind: RecordKind<'_>) -> bool
-    ensures { result ≡ begins_behind begins (kind_seen kind.entry) }
-{
-    match kind {
-        RecordKind::Agent(_) => false,
-        RecordKind::Rule(_, _) => true,
-        RecordKind::Other => begins,
     }
 }

@@ -1,12 +1,13 @@
 //! The rule lines of a robots text that govern a token.
 //! RFC 9309, section 2.2.1.
-ghost use Rattle.std.specs.Prelude.{◌≡◌, option_map};
+ghost use Rattle.std.specs.Prelude.{◌≡◌};
 ghost use Rattle.robots_text.specs.Groups.{is_named, names_everybody, names_token, speaks_to};
 ghost use Rattle.robots_text.specs.Left.{records_left};
 ghost use Rattle.robots_text.specs.Records.{Record, kind_seen};
-ghost use Rattle.robots_text.specs.Walk.{after_head, after_record, after_rule, rule_seen, ruled_at, speaks};
+ghost use Rattle.robots_text.specs.Walk.{speaks};
 
-use crate::record::{Agent, RecordKind, RecordLine, RuleKind};
+use crate::grouped::GroupedRecords;
+use crate::record::{Agent, RecordKind, RuleKind};
 use crate::records::Records;
 use crate::text::RobotsText;
 use crate::token::Token;
@@ -29,23 +30,13 @@ pub enum Whom<'a> {
     Everybody,
 }
 
-// The state of a walk over the lines.
-#[derive(Clone, Copy)]
-enum Group {
-    // In no group, or in one for others.
-    Foreign,
-    // Among the user-agent lines of a matching group.
-    Heads,
-    // After a rule of such a group.
-    Rules,
-}
-
 /// The remaining rule lines for a token. Takes no memory.
 #[derive(Drop)]
 pub struct RulesFor<'t, 'k> {
-    records: Records<'t>,
+    records: GroupedRecords<'t>,
     whom: Whom<'k>,
-    group: Group,
+    // The last group with a user-agent line for them.
+    group: Option<u64>,
 }
 
 impl RobotsText {
@@ -59,9 +50,9 @@ impl RobotsText {
         ensures { AreRulesFor (numbered_records self.now) token.now (rules_left result) }
     {
         RulesFor {
-            records: self.records(),
+            records: self.groups(),
             whom: whom_for(self.records(), token.text().as_bytes()),
-            group: Group::Foreign,
+            group: None,
         }
     }
 }
@@ -78,10 +69,18 @@ impl<'t, 'k> Iterator for RulesFor<'t, 'k> {
 
     fn next(&mut self) -> Option<RuleLine<'t>> {
         while let Some(record) = self.records.next() {
-            let group = self.group;
-            self.group = after_record(self.whom, group, record.kind);
-            if let Some(rule) = rule_at(group, record.line, record.kind) {
-                return Some(rule);
+            match record.kind {
+                RecordKind::Agent(_) if speaks(self.whom, record.kind) => {
+                    self.group = Some(record.group);
+                }
+                RecordKind::Rule(kind, pattern) if self.group == Some(record.group) => {
+                    return Some(RuleLine {
+                        line: record.line,
+                        kind,
+                        pattern,
+                    });
+                }
+                _ => {}
             }
         }
         None
@@ -134,48 +133,5 @@ pub fn speaks(whom: Whom<'_>, kind: RecordKind<'_>) -> bool
     match whom {
         Whom::Token(word) => names_token(word, kind),
         Whom::Everybody => names_everybody(kind),
-    }
-}
-
-fn rule_at(group: Group, line: u64, kind: RecordKind<'_>) -> Option<RuleLine<'_>>
-    ensures { option_map rule_seen result ≡ ruled_at group line (kind_seen kind.entry) }
-{
-    match (group, kind) {
-        (Group::Heads | Group::Rules, RecordKind::Rule(kind, pattern)) => Some(RuleLine {
-            line,
-            kind,
-            pattern,
-        }),
-        _ => None,
-    }
-}
-
-fn after_record(whom: Whom<'_>, group: Group, kind: RecordKind<'_>) -> Group
-    ensures { result ≡ after_record (speaks whom.entry) group (kind_seen kind.entry) }
-{
-    match kind {
-        RecordKind::Agent(_) if speaks(whom, kind) => Group::Heads,
-        RecordKind::Agent(_) => after_head(group),
-        RecordKind::Rule(_, _) => after_rule(group),
-        RecordKind::Other => group,
-    }
-}
-
-// A user-agent line after a rule begins another group.
-fn after_head(group: Group) -> Group
-    ensures { result ≡ after_head group }
-{
-    match group {
-        Group::Heads => Group::Heads,
-        Group::Foreign | Group::Rules => Group::Foreign,
-    }
-}
-
-fn after_rule(group: Group) -> Group
-    ensures { result ≡ after_rule group }
-{
-    match group {
-        Group::Foreign => Group::Foreign,
-        Group::Heads | Group::Rules => Group::Rules,
     }
 }

@@ -1,45 +1,129 @@
 -- Sorted keys have sorted places.
 -- Used by `in_order`.
-use Rattle.std.proofs.Common.{◌≡◌, ℕ, ◌+◌, ◌<◌, All, List, [], ◌∷◌, length, map, get_or, refl, sym, ap, ◌∙◌, arith}
+use Rattle.std.proofs.Common.{◌≡◌, ◌⊎◌, inl, inr, ⊎_elim, ℕ, zero, suc, ◌+◌, ◌*◌, ◌<◌, ◌≤◌, min, All, List, [], ◌∷◌, length, map, get_or, refl, sym, ap, ◌∙◌, arith}
 use Rattle.std.specs.List.Sorted.{IsSortedBy}
 use Rattle.std.specs.declared.cmp.Ordering.{Ordering}
 use Rattle.std.specs.declared.cmp.Ordering.TheVariants.{Less, Equal, Greater}
 use Rattle.std.specs.Ordering.{is_lt, nat_cmp, ordering_then}
 use Rattle.std.specs.Cmp.{IsTotalOrder}
+use Rattle.std.specs.Prelude.{nat_lt, if◌then◌else◌}
+use Rattle.std.proofs.lemmas.Bool.{cases_lt, cases_order, le-ltb, lt-ltb}
 use Rattle.std.specs.Cmp.Lexicographic.{slice_cmp}
 use Rattle.std.proofs.lemmas.Cmp.{back_total, nat_cmp_total, nat_list_cmp_total, on_total, then_total}
 use Rattle.std.proofs.lemmas.List.{get_or-map, length-map}
 use Rattle.std.proofs.lemmas.List.Elements.{All-get_or}
 use Rattle.robots_verdict.specs.declared.keys.Key.{Key}
-use Rattle.robots_verdict.specs.Keys.{compare_keys, IsKeyOf, number}
+use Rattle.robots_verdict.specs.Keys.{compare_keys, if_long, IsKeyOf, number}
 use Rattle.robots_verdict.specs.Placed.{Placed}
 use Rattle.robots_verdict.specs.Rows.{row_at}
 use Rattle.robots_verdict.specs.Search.{compare_plain, IsPlainOrder}
-use Rattle.path_pattern.proofs.CallerLemmas.{by_front}
+use Rattle.path_pattern.specs.Texts.{AreOctets, spelled_number}
+use Rattle.path_pattern.proofs.CallerLemmas.{by_front, is_equal, is_greater, is_less, later, spell_less}
 
 pub keys_total : (rows : List Placed) → IsTotalOrder (compare_keys rows)
 keys_total rows =
     then_total (on_total (λ (k : Key). k.group) nat_cmp_total)
     (then_total (on_total number nat_cmp_total)
-    (then_total (on_total (λ (k : Key). (row_at rows k.place).form) nat_list_cmp_total) (on_total (λ (k : Key). k.place) (back_total nat_cmp_total))))
+    (then_total (on_total (λ (k : Key). k.cut) nat_cmp_total)
+    (then_total (on_total (if_long rows) nat_list_cmp_total) (on_total (λ (k : Key). k.place) (back_total nat_cmp_total)))))
 
-regroup : (a b c d : Ordering) → ordering_then a (ordering_then b (ordering_then c d)) ≡ ordering_then (ordering_then a (ordering_then b c)) d
-regroup Less b c d = refl
-regroup Greater b c d = refl
-regroup Equal Less c d = refl
-regroup Equal Greater c d = refl
-regroup Equal Equal c d = refl
+one_more : (one other : ℕ) → nat_cmp one other ≡ nat_cmp (suc one) (suc other)
+one_more one other = elim (cases_order one other) [
+  | inl equal ↦ is_equal one other equal ∙ sym (is_equal (suc one) (suc other) (ap suc equal))
+  | inr (inl less) ↦ is_less one other less ∙ sym (is_less (suc one) (suc other) (omega (arith, less)))
+  | inr (inr more) ↦ is_greater one other more ∙ sym (is_greater (suc one) (suc other) (omega (arith, more)))
+]
+
+-- texts that begin alike compare by their lengths if one of them ends there
+by_length : (n a : ℕ) (p q : List ℕ) → AreOctets p → AreOctets q → spelled_number n a p ≡ spelled_number n a q → (length p ≤ n) ⊎ (length q ≤ n) →
+    slice_cmp nat_cmp p q ≡ nat_cmp (length p) (length q)
+by_length n a [] [] are also same short = sym (is_equal 0 0 refl)
+by_length n a [] (y ∷ q) are also same short = sym (is_less 0 (length (y ∷ q)) (omega arith))
+by_length n a (x ∷ p) [] are also same short = sym (is_greater (length (x ∷ p)) 0 (omega arith))
+by_length zero a (x ∷ p) (y ∷ q) are also same short = ⊎_elim (λ one. absurd (omega (arith, one))) (λ other. absurd (omega (arith, other))) short
+by_length (suc n) a (x ∷ p) (y ∷ q) are also same short = elim (cases_order x y) [
+  | inl equal ↦ ap (λ (o : Ordering). ordering_then o (slice_cmp nat_cmp p q)) (is_equal x y equal)
+      ∙ by_length n (a * 256 + x) p q (later x p are) (later y q also) (same ∙ ap (λ z. spelled_number n (a * 256 + z) q) (sym equal))
+      (⊎_elim (λ one. inl (omega (arith, one))) (λ other. inr (omega (arith, other))) short)
+      ∙ one_more (length p) (length q)
+  | inr (inl less) ↦ absurd (omega (arith, same, spell_less n (a * 256 + x) (a * 256 + y) p q (omega (arith, less)) (later x p are) (later y q also)))
+  | inr (inr more) ↦ absurd (omega (arith, same, spell_less n (a * 256 + y) (a * 256 + x) q p (omega (arith, more)) (later y q also) (later x p are)))
+]
+
+same_cut : (one other : ℕ) → (one ≤ 16) ⊎ (other ≤ 16) → nat_cmp one other ≡ nat_cmp (min 17 one) (min 17 other)
+same_cut one other short = elim (cases_order one other) [
+  | inl equal ↦ is_equal one other equal ∙ sym (is_equal (min 17 one) (min 17 other) (ap (min 17) equal))
+  | inr (inl less) ↦ is_less one other less ∙ sym (is_less (min 17 one) (min 17 other) (⊎_elim (λ low. omega (arith, low, less)) (λ low. omega (arith, low, less)) short))
+  | inr (inr more) ↦ is_greater one other more ∙ sym (is_greater (min 17 one) (min 17 other) (⊎_elim (λ low. omega (arith, low, more)) (λ low. omega (arith, low, more)) short))
+]
+
+-- a text if it is longer than its key holds
+abbrev long : List ℕ → List ℕ
+long text = if nat_lt 16 (min 17 (length text)) then text else []
+
+is_short : (text : List ℕ) → length text ≤ 16 → long text ≡ []
+is_short text few = ap (λ b. if b then text else []) (le-ltb 16 (min 17 (length text)) (omega (arith, few)))
+
+is_long : (text : List ℕ) → 16 < length text → long text ≡ text
+is_long text many = ap (λ b. if b then text else []) (lt-ltb 16 (min 17 (length text)) (omega (arith, many)))
+
+by_cut : (p q : List ℕ) → AreOctets p → AreOctets q → spelled_number 16 0 p ≡ spelled_number 16 0 q →
+    slice_cmp nat_cmp p q ≡ ordering_then (nat_cmp (min 17 (length p)) (min 17 (length q))) (slice_cmp nat_cmp (long p) (long q))
+by_cut p q are also same = elim (cases_order (min 17 (length p)) (min 17 (length q))) [
+  | inl equal ↦ ⊎_elim
+      (λ short.
+      let other : length q ≤ 16 = omega (arith, short, equal) in
+      by_length 16 0 p q are also same (inl (omega (arith, short))) ∙ same_cut (length p) (length q) (inl (omega (arith, short)))
+      ∙ is_equal (min 17 (length p)) (min 17 (length q)) equal
+      ∙ sym (λ i. ordering_then (is_equal (min 17 (length p)) (min 17 (length q)) equal i) (slice_cmp nat_cmp (is_short p (omega (arith, short)) i) (is_short q other i))))
+      (λ many.
+      let other : 16 < length q = omega (arith, many, equal) in
+      sym (λ i. ordering_then (is_equal (min 17 (length p)) (min 17 (length q)) equal i) (slice_cmp nat_cmp (is_long p (omega (arith, many)) i) (is_long q other i))))
+      (cases_lt (length p) 17)
+  | inr (inl less) ↦ by_length 16 0 p q are also same (inl (omega (arith, less))) ∙ same_cut (length p) (length q) (inl (omega (arith, less)))
+      ∙ is_less (min 17 (length p)) (min 17 (length q)) less
+      ∙ sym (ap (λ (o : Ordering). ordering_then o (slice_cmp nat_cmp (long p) (long q))) (is_less (min 17 (length p)) (min 17 (length q)) less))
+  | inr (inr more) ↦ by_length 16 0 p q are also same (inr (omega (arith, more))) ∙ same_cut (length p) (length q) (inr (omega (arith, more)))
+      ∙ is_greater (min 17 (length p)) (min 17 (length q)) more
+      ∙ sym (ap (λ (o : Ordering). ordering_then o (slice_cmp nat_cmp (long p) (long q))) (is_greater (min 17 (length p)) (min 17 (length q)) more))
+]
+
+by_number : (p q : List ℕ) → AreOctets p → AreOctets q →
+    slice_cmp nat_cmp p q ≡ ordering_then (nat_cmp (spelled_number 16 0 p) (spelled_number 16 0 q)) (ordering_then (nat_cmp (min 17 (length p)) (min 17 (length q))) (slice_cmp nat_cmp (long p) (long q)))
+by_number p q are also =
+    let one = spelled_number 16 0 p in
+    let other = spelled_number 16 0 q in
+    let texts = slice_cmp nat_cmp p q in
+    let rest = ordering_then (nat_cmp (min 17 (length p)) (min 17 (length q))) (slice_cmp nat_cmp (long p) (long q)) in
+    by_front 16 0 p q are also ∙ elim (cases_order one other) [
+      | inl same ↦ (λ i. ordering_then (nat_cmp one other) (by_cut p q are also same i))
+      | inr (inl less) ↦ ap (λ (o : Ordering). ordering_then o texts) (is_less one other less) ∙ sym (ap (λ (o : Ordering). ordering_then o rest) (is_less one other less))
+      | inr (inr more) ↦ ap (λ (o : Ordering). ordering_then o texts) (is_greater one other more) ∙ sym (ap (λ (o : Ordering). ordering_then o rest) (is_greater one other more))
+    ]
+
+regroup : (a b c d e : Ordering) → ordering_then a (ordering_then b (ordering_then c (ordering_then d e))) ≡ ordering_then (ordering_then a (ordering_then b (ordering_then c d))) e
+regroup Less b c d e = refl
+regroup Greater b c d e = refl
+regroup Equal Less c d e = refl
+regroup Equal Greater c d e = refl
+regroup Equal Equal Less d e = refl
+regroup Equal Equal Greater d e = refl
+regroup Equal Equal Equal d e = refl
+
+-- the pattern of a key, if it is long
+kept_long : (rows : List Placed) (key : Key) → IsKeyOf rows key → if_long rows key ≡ long (row_at rows key.place).form
+kept_long rows key is = ap (λ cut. if nat_lt 16 cut then (row_at rows key.place).form else []) is.cut
 
 pub same_order : (rows : List Placed) (one other : Key) → IsKeyOf rows one → IsKeyOf rows other → compare_keys rows one other ≡ compare_plain rows one.place other.place
 same_order rows one other is also =
     let p = (row_at rows one.place).form in
     let q = (row_at rows other.place).form in
-    let texts = slice_cmp nat_cmp p q in
     let last = nat_cmp other.place one.place in
-    let numbers : ordering_then (nat_cmp (number one) (number other)) texts ≡ texts =
-    (λ i. ordering_then (nat_cmp (is.spelled i) (also.spelled i)) texts) ∙ sym (by_front 16 0 p q is.octets also.octets) in
-    regroup (nat_cmp one.group other.group) (nat_cmp (number one) (number other)) texts last
-    ∙ (λ i. ordering_then (ordering_then (nat_cmp (is.group i) (also.group i)) (numbers i)) last)
+    let texts : ordering_then (nat_cmp (number one) (number other)) (ordering_then (nat_cmp one.cut other.cut) (slice_cmp nat_cmp (if_long rows one) (if_long rows other))) ≡ slice_cmp nat_cmp p q =
+    (λ i. ordering_then (nat_cmp (is.spelled i) (also.spelled i)) (ordering_then (nat_cmp (is.cut i) (also.cut i)) (slice_cmp nat_cmp (kept_long rows one is i) (kept_long rows other also i))))
+    ∙ sym (by_number p q is.octets also.octets) in
+    regroup (nat_cmp one.group other.group) (nat_cmp (number one) (number other)) (nat_cmp one.cut other.cut) (slice_cmp nat_cmp (if_long rows one) (if_long rows other)) last
+    ∙ (λ i. ordering_then (ordering_then (nat_cmp (is.group i) (also.group i)) (texts i)) last)
 
 pub places_rise : (rows : List Placed) (keys : List Key) → All (IsKeyOf rows) keys → IsSortedBy (λ a b. is_lt (compare_keys rows a b)) keys →
     IsPlainOrder rows (map (λ (k : Key). k.place) keys)

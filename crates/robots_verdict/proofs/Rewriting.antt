@@ -8,14 +8,13 @@ use Rattle.std.proofs.lemmas.Slice.Eq.{bytes_eq-Decides}
 use Rattle.path_normal.specs.Normal.{is_anchored, normal_pattern}
 use Rattle.path_normal.proofs.CallerLemmas.{pattern_small}
 use Rattle.robots_text.specs.declared.record.RuleKind.{RuleKind}
-use Rattle.robots_text.specs.Grouped.{Grouped, grouped_from, grouped_records, IsWithin, value_octets, values_octets}
-use Rattle.robots_text.specs.Grouping.{begins_behind, group_at}
+use Rattle.robots_text.specs.Grouped.{Grouped, begins_behind, group_at, grouped_from, grouped_records, IsWithin, value_octets, values_octets}
 use Rattle.robots_text.specs.Groups.{record_ruled, Ruled}
 use Rattle.robots_text.specs.Records.{Record, agent, rule, other, Numbered, numbered_from, numbered_records, records_of}
-use Rattle.robots_text.proofs.CallerLemmas.{at, behind, entry_of, first_of, grouped_stands, late_from, none_of, numbered_above, numbered_stands}
+use Rattle.robots_text.proofs.CallerLemmas.{at, behind, entry_of, first_of, grouped, grouped_stands, late_from, none_of, numbered_above, numbered_stands}
 use Rattle.robots_verdict.specs.Placed.{Placed, placed_at, placed_in}
 use Rattle.robots_verdict.specs.Rewritten.{FormOfLine, rewritten_at, rewritten_in}
-use Rattle.robots_verdict.proofs.Verdicts.{grouped, of_line}
+use Rattle.robots_verdict.proofs.Verdicts.{of_line}
 
 -- what was read and what is left make up the whole; there is room for its octets
 pub record IsRewriting (all left : List Grouped) (forms : List FormOfLine) (octets : ℕ) : Type 0 where
@@ -107,7 +106,7 @@ above group begins n ks form stands =
     let lines = grouped_from group begins (numbered_from n ks) in
     let at = within lines form stands in
     let one = of_line lines at.row at.stands in
-    let low = numbered_above n ks (record_ruled one.ruled) (numbered_stands group begins n ks (grouped at.row.group one.ruled) one.stands) in
+    let low = numbered_above n ks (record_ruled one.ruled) (numbered_stands group begins (numbered_from n ks) (grouped at.row.group one.ruled) one.stands) in
     let same : one.ruled.line ≡ form.line = ap (λ (r : Placed). r.line) one.is ∙ ap line_of at.is in
     omega (arith, low, same)
 
@@ -169,7 +168,7 @@ pub kept_form : (text : List ℕ) (ruled : Ruled) (form : FormOfLine) → Contai
 kept_form text ruled form stands kept same =
     let at = within (grouped_records text) form kept in
     let one = of_line (grouped_records text) at.row at.stands in
-    let also = numbered_stands 0 true 1 (records_of text) (grouped at.row.group one.ruled) one.stands in
+    let also = numbered_stands 0 true (numbered_records text) (grouped at.row.group one.ruled) one.stands in
     let line = ap (λ (r : Placed). r.line) one.is ∙ ap line_of at.is ∙ same in
     let is = apart 1 (records_of text) (record_ruled one.ruled) (record_ruled ruled) also stands line in
     sym (ap (λ (r : Placed). r.form) one.is ∙ ap (λ (f : FormOfLine). f.form) at.is) ∙ ap (λ (z : Numbered). normal_pattern (value_of z.kind)) is
@@ -181,5 +180,5 @@ own_form text ruled stands none = by (bytes_eq (normal_pattern ruled.pattern) ru
     by : (is : Bool) → bytes_eq (normal_pattern ruled.pattern) ruled.pattern ≡ is → ruled.pattern ≡ normal_pattern ruled.pattern
     by true is = sym ((bytes_eq-Decides (normal_pattern ruled.pattern) ruled.pattern).0 is)
     by false not =
-        let found = grouped_stands 0 true 1 (records_of text) (record_ruled ruled) stands in
+        let found = grouped_stands 0 true (numbered_records text) (record_ruled ruled) stands in
         absurd (none (form_of ruled) (rewritten_stands (grouped_records text) found.0 ruled not found.1) refl)

@@ -1,7 +1,7 @@
 -- The first row that decides gives the verdict.
 -- Used by `Policy::verdict`.
-use Rattle.std.proofs.Common.{◌≡◌, ℕ, ◌+◌, ◌<◌, ◌≤◌, length, Bool, true, false, inl, inr, List, [], ◌∷◌, ◌++◌, Contains, refl, sym, ap, ◌∙◌, subst, arith}
-use Rattle.std.specs.Prelude.{◌↔◌, ◌≢◌, ◌||◌, bytes_eq, MatchBool, IfSome, Option, Some, None, unwrap_or, is_some}
+use Rattle.std.proofs.Common.{◌≡◌, ℕ, ◌+◌, ◌<◌, ◌≤◌, length, Bool, true, false, inl, inr, List, [], ◌∷◌, ◌++◌, Contains, refl, sym, ap, ◌∙◌, subst}
+use Rattle.std.specs.Prelude.{◌↔◌, ◌≢◌, ◌||◌, bytes_eq, if◌then◌else◌, MatchBool, IfSome, Option, Some, None, unwrap_or, is_some}
 use Rattle.std.proofs.lemmas.Bool.{cond-true, cond-false, true≢false}
 use Rattle.std.proofs.lemmas.List.Elements.{Contains-append_cases, Contains-append_left, Contains-append_right}
 use Rattle.std.proofs.lemmas.List.{get_or_default}
@@ -11,12 +11,11 @@ use Rattle.path_normal.specs.Normal.{normal_pattern}
 use Rattle.path_pattern.specs.Matches.{Matches}
 use Rattle.robots_text.specs.declared.record.RuleKind.{RuleKind}
 use Rattle.robots_text.specs.declared.record.RuleKind.TheVariants as kinds
-use Rattle.robots_text.specs.Grouped.{Grouped, grouped_from, grouped_records, numbered_of}
-use Rattle.robots_text.specs.Grouping.{begins_behind, group_at}
-use Rattle.robots_text.specs.Groups.{is_agent, is_named, IsRuleFor, names_everybody, names_token, record_ruled, Ruled, speaks_to}
+use Rattle.robots_text.specs.Grouped.{Grouped, begins_behind, group_at, grouped_from, grouped_records}
+use Rattle.robots_text.specs.Groups.{is_agent, is_named, IsRuleFor, names_everybody, names_token, Ruled, speaks_to}
 use Rattle.robots_text.specs.Records.{everybody, token, nobody, Record, agent, rule, other, numbered_from, numbered_records, records_of}
 use Rattle.robots_text.specs.Token.{is_token, lower_case, token_of}
-use Rattle.robots_text.proofs.CallerLemmas.{behind, entry_of, first_of, group_governs, grouped_stands, none_of}
+use Rattle.robots_text.proofs.CallerLemmas.{behind, entry_of, first_of, grouped, HasHead, head_behind, none_of, rule_in_group}
 use Rattle.robots_verdict.specs.Heads.{has_name, IsGroupFor}
 use Rattle.robots_verdict.specs.Index.{FindsLeast, IsHit, IsIndex}
 use Rattle.robots_verdict.specs.Placed.{everybody_at, everybody_in, named_at, named_in, NamedGroup, Names, Placed, placed_at, placed_in, Table}
@@ -31,10 +30,6 @@ use Rattle.robots_verdict.proofs.Weighing.{falling_total}
 -- the row of a rule line
 abbrev pub placed : ℕ → Ruled → Placed
 placed group ruled = record { group = group; line = ruled.line; kind = ruled.kind; form = normal_pattern ruled.pattern }
-
--- the grouped record of a rule line
-abbrev pub grouped : ℕ → Ruled → Grouped
-grouped group ruled = record { group = group; line = ruled.line; kind = rule ruled.kind ruled.pattern }
 
 pub placed_here : (one : Grouped) (group : ℕ) (ruled : Ruled) → one ≡ grouped group ruled → Contains (placed_at one.group one.line one.kind) (placed group ruled)
 placed_here one group ruled is = subst (λ (o : Grouped). Contains (placed_at o.group o.line o.kind) (placed group ruled)) (sym is) (first_of (placed group ruled) [])
@@ -115,17 +110,6 @@ everybody_from group (agent (token name)) of stands = absurd (none_of _ stands)
 everybody_from group (agent nobody) of stands = absurd (none_of _ stands)
 everybody_from group (rule kind value) of stands = absurd (none_of _ stands)
 everybody_from group other of stands = absurd (none_of _ stands)
-
--- a line that passes the test is in the group
-record HasHead (test : Record → Bool) (lines : List Grouped) (group : ℕ) : Type 0 where
-  pub head : Grouped
-  pub stands : Contains lines head
-  pub in_group : head.group ≡ group
-  pub is_head : is_agent head.kind ≡ true
-  pub speaks : test head.kind ≡ true
-
-head_behind : (test : Record → Bool) (first : Grouped) (lines : List Grouped) (group : ℕ) → HasHead test lines group → HasHead test (first ∷ lines) group
-head_behind test first lines group has = record { head = has.head; stands = behind first has.head lines has.stands; in_group = has.in_group; is_head = has.is_head; speaks = has.speaks }
 
 named_stands : (lines : List Grouped) (word : List ℕ) (head : Grouped) → lower_case word ≡ word → Contains lines head → names_token word head.kind ≡ true →
     Contains (named_in lines) (record { name = word; group = head.group })
@@ -211,37 +195,21 @@ module _ (text : List ℕ) (table : Table) (names : Names) (index : IsIndex text
   spoken_by : (is : Bool) → is_named (numbered_records text) word ≡ is → (group : ℕ) → IsGroupFor names word group → HasHead (speaks_to (numbered_records text) word) (grouped_records text) group
   spoken_by true is group match =
       let stands = if_named (has_name names.named word) _ _ (same_named ∙ is) match in
-      let has = named_heads (grouped_records text) word group own
-      (Contains-permutation names.named (named_in (grouped_records text)) (record { name = word; group = group }) (IsPermutation-sym (named_in (grouped_records text)) names.named index.named) stands) in
-      record {
-        head = has.head;
-        stands = has.stands;
-        in_group = has.in_group;
-        is_head = has.is_head;
-        speaks = cond-true (is_named (numbered_records text) word) (names_token word has.head.kind) (names_everybody has.head.kind) is ∙ has.speaks;
-      }
+      subst (λ (test : Record → Bool). HasHead test (grouped_records text) group) (λ i kind. if sym is i then names_token word kind else names_everybody kind)
+      (named_heads (grouped_records text) word group own
+      (Contains-permutation names.named (named_in (grouped_records text)) (record { name = word; group = group }) (IsPermutation-sym (named_in (grouped_records text)) names.named index.named) stands))
   spoken_by false is group match =
       let stands = if_unnamed (has_name names.named word) _ _ (same_named ∙ is) match in
-      let has = everybody_heads (grouped_records text) group
-      (Contains-permutation names.everybody (everybody_in (grouped_records text)) group (IsPermutation-sym (everybody_in (grouped_records text)) names.everybody index.everybody) stands) in
-      record {
-        head = has.head;
-        stands = has.stands;
-        in_group = has.in_group;
-        is_head = has.is_head;
-        speaks = cond-false (is_named (numbered_records text) word) (names_token word has.head.kind) (names_everybody has.head.kind) is ∙ has.speaks;
-      }
+      subst (λ (test : Record → Bool). HasHead test (grouped_records text) group) (λ i kind. if sym is i then names_token word kind else names_everybody kind)
+      (everybody_heads (grouped_records text) group
+      (Contains-permutation names.everybody (everybody_in (grouped_records text)) group (IsPermutation-sym (everybody_in (grouped_records text)) names.everybody index.everybody) stands))
 
   rule_placed : (ruled : Ruled) → IsRuleFor (numbered_records text) word ruled → (group : ℕ) × (Contains table.rows (placed group ruled)) × (IsGroupFor names word group)
   rule_placed ruled is =
-      let head = grouped_stands 0 true 1 (records_of text) is.head is.governs.head_stands in
-      let line = grouped_stands 0 true 1 (records_of text) (record_ruled ruled) is.governs.line_stands in
-      let one : Grouped = record { group = head.0; line = is.head.line; kind = is.head.kind } in
-      let two : Grouped = grouped line.0 ruled in
-      let same = (group_governs 0 true 1 (records_of text) one two (omega arith) head.1 line.1 is.governs.is_head is.governs.is_line).1 is.governs in (
-        line.0,
-        Contains-permutation (placed_in (grouped_records text)) table.rows (placed line.0 ruled) index.rows (placed_stands (grouped_records text) line.0 ruled line.1),
-        subst (IsGroupFor names word) same (group_spoken one head.1 is.speaks),
+      let one = (rule_in_group text word ruled).0 is in (
+        one.group,
+        Contains-permutation (placed_in (grouped_records text)) table.rows (placed one.group ruled) index.rows (placed_stands (grouped_records text) one.group ruled one.stands),
+        subst (IsGroupFor names word) one.has.in_group (group_spoken one.has.head one.has.stands one.has.speaks),
       )
 
   placed_rule : (row : Placed) → Contains table.rows row → IsGroupFor names word row.group → (ruled : Ruled) × (IsRuleFor (numbered_records text) word ruled) × (placed row.group ruled ≡ row)
@@ -249,8 +217,7 @@ module _ (text : List ℕ) (table : Table) (names : Names) (index : IsIndex text
       let one = of_line (grouped_records text) row
       (Contains-permutation table.rows (placed_in (grouped_records text)) row (IsPermutation-sym (placed_in (grouped_records text)) table.rows index.rows) stands) in
       let has = spoken_by (is_named (numbered_records text) word) refl row.group match in
-      let governs = (group_governs 0 true 1 (records_of text) has.head (grouped row.group one.ruled) (omega arith) has.stands one.stands has.is_head refl).0 has.in_group in
-      (one.ruled, record { head = numbered_of has.head; speaks = has.speaks; governs = governs }, one.is)
+      (one.ruled, (rule_in_group text word one.ruled).1 (record { group = row.group; stands = one.stands; has = has }), one.is)
 
   module _ (groups path : List ℕ) (are : (group : ℕ) → Contains groups group ↔ IsGroupFor names word group) where
     applies_hit : (ruled : Ruled) → Applies (numbered_records text) word path ruled → (place : ℕ) × (IsHit table.rows groups path place) × (weight_at (row_at table.rows place) ≡ weight_of ruled)

@@ -1,6 +1,6 @@
 -- The keys that sort plain places, with the first octets of their patterns as a number.
 -- Cited by `Key`.
-use Rattle.std.specs.Prelude.{◌≡◌, ℕ, ◌+◌, ◌*◌, ◌^◌, List}
+use Rattle.std.specs.Prelude.{◌≡◌, ℕ, ◌+◌, ◌*◌, ◌^◌, List, [], length, min, nat_lt, if◌then◌else◌}
 use Rattle.path_pattern.specs.Texts.{AreOctets, spelled_number}
 use Rattle.std.specs.declared.cmp.Ordering.{Ordering}
 use Rattle.std.specs.Ordering.{nat_cmp, ordering_then}
@@ -13,18 +13,26 @@ use Rattle.robots_verdict.specs.Rows.{row_at}
 abbrev pub number : Key → ℕ
 number key = key.front * 2 ^ 64 + key.next
 
--- the key of a place: its group, and the first sixteen octets of its pattern as a number
+-- the key of a place: its group, the first sixteen octets of its pattern as a number, and its length up to 17
 pub record IsKeyOf (rows : List Placed) (key : Key) : Type 0 where
   pub group : key.group ≡ (row_at rows key.place).group
   pub spelled : number key ≡ spelled_number 16 0 (row_at rows key.place).form
+  pub cut : key.cut ≡ min 17 (length (row_at rows key.place).form)
   pub octets : AreOctets (row_at rows key.place).form
+
+-- the pattern if it has more than sixteen octets, else nothing
+abbrev pub if_long : List Placed → Key → List ℕ
+if_long rows key = if nat_lt 16 key.cut then (row_at rows key.place).form else []
+
+-- the order of keys with equal numbers: by length up to 17, by pattern if longer, and of equal ones the stronger last
+abbrev pub compare_alike : List Placed → Key → Key → Ordering
+compare_alike rows one other =
+    ordering_then (nat_cmp one.cut other.cut)
+    (ordering_then (slice_cmp nat_cmp (if_long rows one) (if_long rows other)) (nat_cmp other.place one.place))
 
 -- the order of a group's keys: by number, then as plain places
 abbrev pub compare_patterns : List Placed → Key → Key → Ordering
-compare_patterns rows one other =
-    ordering_then (nat_cmp (number one) (number other))
-    (ordering_then (slice_cmp nat_cmp (row_at rows one.place).form (row_at rows other.place).form)
-    (nat_cmp other.place one.place))
+compare_patterns rows one other = ordering_then (nat_cmp (number one) (number other)) (compare_alike rows one other)
 
 -- keys in order: by group, then by pattern
 abbrev pub compare_keys : List Placed → Key → Key → Ordering

@@ -1,17 +1,18 @@
 //! The index of a robots text: its rule lines, strongest first, the ways to find them, and the names of
 //! its groups. RFC 9309, section 2.2.2.
-ghost use Rattle.std.specs.Prelude.{◌≡◌, ◌+◌, ◌*◌, ◌^◌, ◌<◌, ◌≤◌, ◌++◌, IfOk, length, map};
+ghost use Rattle.std.specs.Prelude.{◌≡◌, ◌+◌, ◌*◌, ◌^◌, ◌<◌, ◌≤◌, ◌++◌, Contains, IfOk, length, map};
 ghost use Rattle.robots_text.specs.Lines.{text_limit};
-ghost use Rattle.robots_text.specs.Grouped.{grouped_records, value_octets};
-ghost use Rattle.robots_text.specs.Records.{kind_seen};
+ghost use Rattle.robots_text.specs.Grouped.{grouped_records, grouped_seen, numbered_of, value_octets};
+ghost use Rattle.robots_text.specs.Records.{kind_seen, numbered_records};
 ghost use Rattle.robots_verdict.specs.Heads.{name_seen};
 ghost use Rattle.robots_verdict.specs.Index.{IsIndexOf};
 ghost use Rattle.robots_verdict.specs.Placed.{everybody_at, everybody_in, named_at, named_in, placed_at, placed_in};
 
 use crate::heads::{Heads, NamedGroups};
+use crate::normal_text::NormalText;
 use crate::ranked_rows::RankedRows;
 use crate::rows::Rows;
-use robots_text::{GroupedRecord, RecordKind, RobotsText};
+use robots_text::{GroupedRecord, RecordKind, RuleLine};
 use std::alloc::{AllocError, Global};
 
 /// The rows, how to find them, and the names.
@@ -24,10 +25,10 @@ pub(crate) struct Index {
 
 impl Index {
     /// The index of a text.
-    pub(crate) fn of(alloc: Global, text: &RobotsText) -> Result<Index, AllocError>
-        ensures { IfOk result (IsIndexOf text.now) }
+    pub(crate) fn of(alloc: Global, normal: &NormalText) -> Result<Index, AllocError>
+        ensures { IfOk result (IsIndexOf normal.now) }
     {
-        let (mut rows, names) = read(alloc, text)?;
+        let (mut rows, names) = read(alloc, normal)?;
         // Spare capacity is freed before the lists of places are made.
         rows.fit();
         rows.sort();
@@ -37,29 +38,34 @@ impl Index {
     }
 }
 
-fn read(alloc: Global, text: &RobotsText) -> Result<(Rows, NamedGroups), AllocError>
-    ensures rows { IfOk result (λ parts. parts.0.rows ≡ placed_in (grouped_records text.now)) }
+fn read(alloc: Global, normal: &NormalText) -> Result<(Rows, NamedGroups), AllocError>
+    ensures rows { IfOk result (λ parts. parts.0.rows ≡ placed_in (grouped_records normal.now)) }
     ensures few { IfOk result (λ parts. length parts.0.rows ≤ text_limit) }
     ensures named { IfOk result (λ parts. map name_seen parts.1.names.items
-        ≡ named_in (grouped_records text.now)) }
+        ≡ named_in (grouped_records normal.now)) }
     ensures everybody { IfOk result (λ parts. parts.1.everybody.items
-        ≡ everybody_in (grouped_records text.now)) }
+        ≡ everybody_in (grouped_records normal.now)) }
 {
     let mut rows = Rows::new(alloc);
     let mut names = NamedGroups::new(alloc);
-    let mut records = text.groups();
+    let mut near = 0;
+    let mut records = normal.text().groups();
     while let Some(item) = records.next() {
-        take(alloc, &mut rows, &mut names, item)?;
+        take(alloc, normal, &mut near, &mut rows, &mut names, item)?;
     }
     Ok((rows, names))
 }
 
+// Adds a record. Its form, if kept, is near this place.
 fn take(
     alloc: Global,
+    normal: &NormalText,
+    near: &mut usize,
     rows: &mut Rows,
     names: &mut NamedGroups,
     item: GroupedRecord<'_>,
 ) -> Result<(), AllocError>
+    requires stands { Contains (numbered_records normal.now) (numbered_of (grouped_seen item)) }
     requires octets { rows.old.octets + 3 * value_octets (kind_seen item.kind) < 2 ^ 32 }
     requires numbers { (item.line < 2 ^ 32) × (item.group < 2 ^ 32) }
     ensures rows { IfOk result (λ _. rows.new.rows
@@ -75,7 +81,16 @@ fn take(
     match item.kind {
         RecordKind::Agent(who) => names.push(alloc, who, item.group as u32),
         RecordKind::Rule(kind, pattern) => {
-            rows.push(item.group as u32, item.line as u32, kind, pattern)
+            let line = item.line;
+            let form = normal.form(
+                RuleLine {
+                    line,
+                    kind,
+                    pattern,
+                },
+                near,
+            );
+            rows.push(item.group as u32, line as u32, kind, form)
         }
         RecordKind::Other => Ok(()),
     }

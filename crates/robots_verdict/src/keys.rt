@@ -1,9 +1,9 @@
 //! The plain places, sorted by keys that hold the first octets of their patterns.
 //! Used by `Plain`: most comparisons of two keys look at no pattern.
-ghost use Rattle.std.specs.Prelude.{◌≡◌, All, drop, IfOk, map};
+ghost use Rattle.std.specs.Prelude.{◌≡◌, All, drop, IfOk, length, map, min};
 ghost use Rattle.std.specs.List.Sorted.{IsPermutation};
 ghost use Rattle.path_pattern.specs.Texts.{AreOctets, spelled_number};
-ghost use Rattle.robots_verdict.specs.Keys.{compare_keys, compare_patterns, IsKeyOf, number};
+ghost use Rattle.robots_verdict.specs.Keys.{compare_alike, compare_keys, compare_patterns, if_long, IsKeyOf, number};
 ghost use Rattle.robots_verdict.specs.Search.{IsPlainOrder};
 
 use crate::rows::Rows;
@@ -16,6 +16,8 @@ use std::cmp::Ordering;
 pub(crate) struct Key {
     front: u64,
     next: u64,
+    // How many octets the pattern has, or 17 if it has more.
+    cut: u32,
     group: u32,
     place: u32,
 }
@@ -64,11 +66,13 @@ fn key_at(rows: &Rows, place: u32) -> Key
 fn key_of(group: u32, place: u32, form: &[u8]) -> Key
     ensures place { (result.group ≡ group) × (result.place ≡ place) }
     ensures spelled { number result ≡ spelled_number 16 0 form.now }
+    ensures cut { result.cut ≡ min 17 (length form.now) }
     ensures octets { AreOctets form.now }
 {
     Key {
         front: front(form),
         next: front(behind_eight(form)),
+        cut: form.len().min(17) as u32,
         group,
         place,
     }
@@ -93,12 +97,31 @@ fn compare_patterns(rows: &Rows, one: &Key, other: &Key) -> Ordering
     ensures { result ≡ compare_patterns rows.now.rows one.now other.now }
 {
     match number(one).cmp(&number(other)) {
-        Ordering::Equal => compare_texts(
-            rows.form(one.place as usize),
-            rows.form(other.place as usize),
-        )
-        .then(other.place.cmp(&one.place)),
+        Ordering::Equal => compare_alike(rows, one, other),
         unequal => unequal,
+    }
+}
+
+// The order of two patterns that begin alike: short ones are compared by their lengths.
+fn compare_alike(rows: &Rows, one: &Key, other: &Key) -> Ordering
+    ensures { result ≡ compare_alike rows.now.rows one.now other.now }
+{
+    match one.cut.cmp(&other.cut) {
+        Ordering::Equal => compare_texts(if_long(rows, one), if_long(rows, other)).then(
+            other.place.cmp(&one.place),
+        ),
+        unequal => unequal,
+    }
+}
+
+// The pattern if its key does not hold it, and nothing if it does.
+fn if_long<'r>(rows: &'r Rows, key: &Key) -> &'r [u8]
+    ensures { result.now ≡ if_long rows.now.rows key.now }
+{
+    if key.cut > 16 {
+        rows.form(key.place as usize)
+    } else {
+        &[]
     }
 }
 

@@ -76,8 +76,8 @@ impl NormalText {
         best
     }
 
-    // A line's pattern in normal form, perhaps kept near this place.
-    fn form<'s>(&'s self, rule: RuleLine<'s>, near: &mut usize) -> &'s [u8]
+    /// A line's pattern in normal form, perhaps kept near this place.
+    pub(crate) fn form<'s>(&'s self, rule: RuleLine<'s>, near: &mut usize) -> &'s [u8]
         requires { Contains (numbered_records self.now) (record_ruled (rule_seen rule)) }
         ensures { result.now ≡ normal_pattern rule.entry.pattern.now }
     {

@@ -83,7 +83,7 @@ impl Policy {
     pub fn indexed(&self, alloc: Global) -> Result<Policy, AllocError>
         ensures { IfOk result (λ policy. policy ≡ self.now) }
     {
-        let index = Index::of(alloc, self.text())?;
+        let index = Index::of(alloc, &self.text)?;
         Ok(Policy {
             text: Arc::try_clone(&self.text)?,
             index: Some(index),
@@ -153,7 +153,8 @@ impl Policy {
         ensures { IsVerdict (numbered_records self.now) token.now path.now result }
     {
         self.count_slow();
-        let (places, mut room) = (SuffixArray::of(path), empty_room());
+        let places = SuffixArray::of(path);
+        let mut room = empty_room();
         self.verdict_elsewhere(token, &mut Path::with(path, &places, &mut room))
     }
 

@@ -1,8 +1,7 @@
 //! The rows of a policy in one list, and the octets of their patterns in another.
 //! RFC 9309, section 2.2.2.
-ghost use Rattle.std.specs.Prelude.{◌≡◌, ◌+◌, ◌*◌, ◌^◌, ◌∷◌, ◌++◌, [], ◌<◌, ◌≤◌, length, IfOk, IfSome};
+ghost use Rattle.std.specs.Prelude.{◌≡◌, ◌+◌, ◌^◌, ◌∷◌, ◌++◌, [], ◌<◌, ◌≤◌, length, IfOk, IfSome};
 ghost use Rattle.std.specs.List.Sorted.{IsPermutation, IsSortedBy};
-ghost use Rattle.path_normal.specs.Normal.{normal_pattern};
 ghost use Rattle.robots_verdict.specs.Rows.{is_row_above, part, row_at, weight_kept};
 ghost use Rattle.robots_verdict.specs.Strongest.{verdict_at};
 ghost use Rattle.robots_verdict.specs.Weights.{falling};
@@ -10,7 +9,6 @@ ghost use Rattle.robots_verdict.specs.Weights.{falling};
 use crate::decision::{Allowed, Verdict};
 use crate::rule_row::RuleRow;
 use crate::weight::Weight;
-use path_normal::push_normal_pattern;
 use robots_text::RuleKind;
 use std::alloc::{AllocError, Global};
 use std::cmp::Ordering;
@@ -49,27 +47,24 @@ impl Rows {
         }
     }
 
-    /// Adds a rule line, with its pattern as in the text.
+    /// Adds a rule line, with its pattern in normal form.
     pub(crate) fn push(
         &mut self,
         group: u32,
         line: u32,
         kind: RuleKind,
-        pattern: &[u8],
+        form: &[u8],
     ) -> Result<(), AllocError>
-        requires { self.old.octets + 3 * length pattern.now < 2 ^ 32 }
+        requires { self.old.octets + length form.now < 2 ^ 32 }
         ensures row { IfOk result (λ _. self.new.rows ≡ self.old.rows
-            ++ record { group = group; line = line; kind = kind; form = normal_pattern pattern.now }
-            ∷ []) }
-        ensures octets { IfOk result (λ _. self.new.octets
-            ≤ self.old.octets + 3 * length pattern.now) }
+            ++ record { group = group; line = line; kind = kind; form = form.now } ∷ []) }
+        ensures octets { IfOk result (λ _. self.new.octets ≡ self.old.octets + length form.now) }
     {
         let start = self.octets.len();
-        push_normal_pattern(&mut self.octets, pattern)?;
-        let len = self.octets.len() - start;
+        self.octets.extend_from_slice(form)?;
         self.rows.push(RuleRow {
             start: start as u32,
-            len: len as u32,
+            len: form.len() as u32,
             line,
             group,
             kind,

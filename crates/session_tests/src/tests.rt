@@ -12,9 +12,9 @@ mod turns;
 
 use command_server::{DeskKeeper, Keeper, SessionFault, serve};
 use counted_io::{FailAt, Sink, Source};
-use crawl_workers::Clock;
 use gate_core::{Book, Config, Limits};
 use gate_lock::{Gate, GateLock, SettleFault, Settled, settle};
+use page_worker::Clock;
 use scripted_sites::{ScriptedPage, ScriptedSites};
 use std::alloc::Global;
 use std::hash::RandomState;

@@ -1,7 +1,7 @@
 //! What is read from closing connections.
 //! docs/FORMATS.md, limits. Times are in milliseconds.
 
-use super::scripted::{HandClock, Scripted, Step};
+use super::scripted::{HandClock, ScriptStep, Scripted};
 use client_connections::read_out;
 use std::process::Abort;
 use std::test::Fail;
@@ -9,30 +9,35 @@ use std::test::Fail;
 const SIXTEEN: &str = "0123456789abcdef";
 
 // A name, what the client does repeatedly, and the octets and time of reading.
-const PARTINGS: [(&str, &[Step], usize, u128); 7] = [
+const PARTINGS: [(&str, &[ScriptStep], usize, u128); 7] = [
     ("it closes", &[], 0, 0),
     (
         "it closes behind a few octets",
-        &[Step::Moves(10, "abc"), Step::Moves(10, "")],
+        &[ScriptStep::Moves(10, "abc"), ScriptStep::Moves(10, "")],
         3,
         20,
     ),
     (
         "it sends without end",
-        &[Step::Moves(0, SIXTEEN)],
+        &[ScriptStep::Moves(0, SIXTEEN)],
         65_536,
         0,
     ),
-    ("it is silent", &[Step::Moves(900_000, "a")], 0, 1_000),
-    ("it sends slowly", &[Step::Moves(300, "a")], 3, 1_000),
-    ("it resets", &[Step::Moves(0, "a"), Step::Resets(7)], 1, 7),
+    ("it is silent", &[ScriptStep::Moves(900_000, "a")], 0, 1_000),
+    ("it sends slowly", &[ScriptStep::Moves(300, "a")], 3, 1_000),
+    (
+        "it resets",
+        &[ScriptStep::Moves(0, "a"), ScriptStep::Resets(7)],
+        1,
+        7,
+    ),
     (
         "a signal comes",
         &[
-            Step::Interrupts(1),
-            Step::Moves(1, "a"),
-            Step::Interrupts(1),
-            Step::Moves(1, ""),
+            ScriptStep::Interrupts(1),
+            ScriptStep::Moves(1, "a"),
+            ScriptStep::Interrupts(1),
+            ScriptStep::Moves(1, ""),
         ],
         1,
         4,
@@ -47,7 +52,7 @@ fn partings(rt: HostRuntime) -> Result<(), Fail> {
     Ok(())
 }
 
-fn check_parting(rt: &impl Abort, name: &str, script: &[Step], octets: usize, time: u128) {
+fn check_parting(rt: &impl Abort, name: &str, script: &[ScriptStep], octets: usize, time: u128) {
     let clock = HandClock::new();
     let mut client = Scripted::new(&clock, script);
     read_out(&clock, &mut client);
@@ -59,7 +64,7 @@ fn check_parting(rt: &impl Abort, name: &str, script: &[Step], octets: usize, ti
 #[test]
 fn gone(rt: HostRuntime) -> Result<(), Fail> {
     let clock = HandClock::new();
-    let script = [Step::Moves(0, SIXTEEN)];
+    let script = [ScriptStep::Moves(0, SIXTEEN)];
     let mut client = Scripted::new(&clock, &script);
     client.is_there = false;
     read_out(&clock, &mut client);

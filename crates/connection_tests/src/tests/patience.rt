@@ -1,7 +1,7 @@
 //! How long reads and writes wait for a client.
 //! docs/FORMATS.md, limits. Times are in milliseconds.
 
-use super::scripted::{HandClock, Scripted, Step};
+use super::scripted::{HandClock, ScriptStep, Scripted};
 use client_connections::{ClientStream, PATIENCE_SECONDS, Waiting};
 use std::cell::Cell;
 use std::io::{Read, Write};
@@ -13,53 +13,64 @@ const MOST_CALLS: u32 = 1_000;
 
 // A name, what the client does repeatedly, how many reads succeed, and the time of these and the first that
 // fails.
-const READS: [(&str, &[Step], u32, u128); 9] = [
-    ("nothing comes", &[Step::Moves(900_000, "a")], 0, 300_000),
+const READS: [(&str, &[ScriptStep], u32, u128); 9] = [
+    (
+        "nothing comes",
+        &[ScriptStep::Moves(900_000, "a")],
+        0,
+        300_000,
+    ),
     (
         "an octet a second",
-        &[Step::Moves(1_000, "a")],
+        &[ScriptStep::Moves(1_000, "a")],
         300,
         300_000,
     ),
     (
         "an octet in less than a second",
-        &[Step::Moves(700, "a")],
+        &[ScriptStep::Moves(700, "a")],
         428,
         300_000,
     ),
     (
         "a line just in time",
-        &[Step::Moves(300_000, "a\n")],
+        &[ScriptStep::Moves(300_000, "a\n")],
         1_000,
         300_000_000,
     ),
     (
         "a line just too late",
-        &[Step::Moves(300_001, "a\n")],
+        &[ScriptStep::Moves(300_001, "a\n")],
         0,
         300_000,
     ),
     (
         "half lines, and their ends just in time",
-        &[Step::Moves(200_000, "a"), Step::Moves(100_000, "b\nc")],
+        &[
+            ScriptStep::Moves(200_000, "a"),
+            ScriptStep::Moves(100_000, "b\nc"),
+        ],
         1_000,
         150_000_000,
     ),
     (
         "a line without its end",
-        &[Step::Moves(0, "a\nb"), Step::Moves(900_000, "c")],
+        &[
+            ScriptStep::Moves(0, "a\nb"),
+            ScriptStep::Moves(900_000, "c"),
+        ],
         1,
         300_000,
     ),
     (
         "a signal each second",
-        &[Step::Interrupts(1_000)],
+        &[ScriptStep::Interrupts(1_000)],
         0,
         300_000,
     ),
     (
         "a reset",
-        &[Step::Moves(1_000, "a"), Step::Resets(1_000)],
+        &[ScriptStep::Moves(1_000, "a"), ScriptStep::Resets(1_000)],
         1,
         2_000,
     ),
@@ -73,7 +84,7 @@ fn reads(rt: HostRuntime) -> Result<(), Fail> {
     Ok(())
 }
 
-fn check_reads(rt: &impl Abort, name: &str, script: &[Step], count: u32, time: u128) {
+fn check_reads(rt: &impl Abort, name: &str, script: &[ScriptStep], count: u32, time: u128) {
     let clock = HandClock::new();
     let waiting = Cell::new(Waiting::of_seconds(PATIENCE_SECONDS));
     let mut client = ClientStream::new(&clock, Scripted::new(&clock, script), &waiting);
@@ -91,21 +102,31 @@ fn reads_of<R: Read>(client: &mut R) -> u32 {
 }
 
 // How many writes succeed before one fails. They end lines, but the client doesn't.
-const WRITES: [(&str, &[Step], u32, u128); 4] = [
-    ("nothing is taken", &[Step::Moves(900_000, "a")], 0, 300_000),
+const WRITES: [(&str, &[ScriptStep], u32, u128); 4] = [
+    (
+        "nothing is taken",
+        &[ScriptStep::Moves(900_000, "a")],
+        0,
+        300_000,
+    ),
     (
         "an octet a second",
-        &[Step::Moves(1_000, "\n")],
+        &[ScriptStep::Moves(1_000, "\n")],
         300,
         300_000,
     ),
     (
         "a signal each second",
-        &[Step::Interrupts(1_000)],
+        &[ScriptStep::Interrupts(1_000)],
         0,
         300_000,
     ),
-    ("a reset", &[Step::Moves(0, "a"), Step::Resets(7)], 1, 7),
+    (
+        "a reset",
+        &[ScriptStep::Moves(0, "a"), ScriptStep::Resets(7)],
+        1,
+        7,
+    ),
 ];
 
 #[test]
@@ -116,7 +137,7 @@ fn writes(rt: HostRuntime) -> Result<(), Fail> {
     Ok(())
 }
 
-fn check_writes(rt: &impl Abort, name: &str, script: &[Step], count: u32, time: u128) {
+fn check_writes(rt: &impl Abort, name: &str, script: &[ScriptStep], count: u32, time: u128) {
     let clock = HandClock::new();
     let waiting = Cell::new(Waiting::of_seconds(PATIENCE_SECONDS));
     let mut client = ClientStream::new(&clock, Scripted::new(&clock, script), &waiting);
@@ -135,29 +156,29 @@ fn writes_of<W: Write>(client: &mut W) -> u32 {
 
 // A name, the client's steps for reads and for writes, and the calls in order: `r` and `w`, in capitals if
 // they fail.
-const BOTH: [(&str, &[Step], &[Step], &str); 4] = [
+const BOTH: [(&str, &[ScriptStep], &[ScriptStep], &str); 4] = [
     (
         "the waiting of both sides adds up",
-        &[Step::Moves(100_000, "a")],
-        &[Step::Moves(150_000, "b")],
+        &[ScriptStep::Moves(100_000, "a")],
+        &[ScriptStep::Moves(150_000, "b")],
         "rwRW",
     ),
     (
         "a line that is read begins it again",
-        &[Step::Moves(100_000, "a\n")],
-        &[Step::Moves(200_000, "b")],
+        &[ScriptStep::Moves(100_000, "a\n")],
+        &[ScriptStep::Moves(200_000, "b")],
         "rwrw",
     ),
     (
         "nothing succeeds any more, though all is there",
-        &[Step::Moves(400_000, "a"), Step::Moves(0, "b\n")],
-        &[Step::Moves(0, "c")],
+        &[ScriptStep::Moves(400_000, "a"), ScriptStep::Moves(0, "b\n")],
+        &[ScriptStep::Moves(0, "c")],
         "RWRW",
     ),
     (
         "a write that fails has all fail",
-        &[Step::Moves(0, "a\n")],
-        &[Step::Moves(300_001, "b")],
+        &[ScriptStep::Moves(0, "a\n")],
+        &[ScriptStep::Moves(300_001, "b")],
         "rWRW",
     ),
 ];
@@ -170,7 +191,13 @@ fn both_sides(rt: HostRuntime) -> Result<(), Fail> {
     Ok(())
 }
 
-fn check_both(rt: &impl Abort, name: &str, read: &[Step], written: &[Step], want: &str) {
+fn check_both(
+    rt: &impl Abort,
+    name: &str,
+    read: &[ScriptStep],
+    written: &[ScriptStep],
+    want: &str,
+) {
     let clock = HandClock::new();
     let waiting = Cell::new(Waiting::of_seconds(PATIENCE_SECONDS));
     let mut reader = ClientStream::new(&clock, Scripted::new(&clock, read), &waiting);
@@ -190,7 +217,7 @@ fn check_both(rt: &impl Abort, name: &str, read: &[Step], written: &[Step], want
 fn of_two_seconds(rt: HostRuntime) -> Result<(), Fail> {
     let clock = HandClock::new();
     let waiting = Cell::new(Waiting::of_seconds(2));
-    let script = [Step::Moves(500, "a")];
+    let script = [ScriptStep::Moves(500, "a")];
     let mut client = ClientStream::new(&clock, Scripted::new(&clock, &script), &waiting);
     assert_eq!(rt; reads_of(&mut client), 4);
     assert_eq!(rt; clock.milliseconds(), 2_000);

@@ -46,19 +46,18 @@ impl time::Clock for HandClock {
 
 /// The result of a read or write, after so many milliseconds.
 #[derive(Clone, Copy)]
-pub(super) enum Step {
+pub(super) enum ScriptStep {
     /// A read gets these octets; a write takes so many.
     Moves(u64, &'static str),
     Interrupts(u64),
     Resets(u64),
 }
 
-impl Step {
+impl ScriptStep {
     fn time(self) -> Duration {
         match self {
-            Step::Moves(time, _) | Step::Interrupts(time) | Step::Resets(time) => {
-                Duration::from_millis(time)
-            }
+            ScriptStep::Moves(time, _) | ScriptStep::Interrupts(time) | ScriptStep::Resets(time) =>
+                { Duration::from_millis(time) }
         }
     }
 }
@@ -67,7 +66,7 @@ impl Step {
 #[derive(Drop)]
 pub(super) struct Scripted<'a> {
     clock: &'a HandClock,
-    script: &'a [Step],
+    script: &'a [ScriptStep],
     at: usize,
     // How long the current step was waited for.
     waited: Duration,
@@ -79,7 +78,7 @@ pub(super) struct Scripted<'a> {
 }
 
 impl<'a> Scripted<'a> {
-    pub(super) fn new(clock: &'a HandClock, script: &'a [Step]) -> Scripted<'a> {
+    pub(super) fn new(clock: &'a HandClock, script: &'a [ScriptStep]) -> Scripted<'a> {
         Scripted {
             clock,
             script,
@@ -105,9 +104,9 @@ impl<'a> Scripted<'a> {
         self.clock.pass(left);
         self.go_on();
         match step {
-            Step::Moves(_, octets) => Ok(octets.as_bytes()),
-            Step::Interrupts(_) => Err(io::Error::from(ErrorKind::Interrupted)),
-            Step::Resets(_) => Err(io::Error::from(ErrorKind::ConnectionReset)),
+            ScriptStep::Moves(_, octets) => Ok(octets.as_bytes()),
+            ScriptStep::Interrupts(_) => Err(io::Error::from(ErrorKind::Interrupted)),
+            ScriptStep::Resets(_) => Err(io::Error::from(ErrorKind::ConnectionReset)),
         }
     }
 

@@ -1,7 +1,7 @@
 //! How long the gate fetches for lines sent ahead, and which lines are read together.
 //! docs/crawlgate.1.md, `--ahead`.
 
-use super::scripted::{HandClock, Scripted, Step};
+use super::scripted::{HandClock, ScriptStep, Scripted};
 use client_connections::{AtHand, ClientStream, FetchedAhead, LinesInTurn, RepliesInTurn, Waiting};
 use http_client::Waits;
 use std::alloc::Global;
@@ -109,7 +109,7 @@ fn check_turns(
     let (clock, at_hand) = (HandClock::new(), Cell::new(false));
     let waiting = Cell::new(Waiting::of_seconds(PATIENCE));
     let turn = Cell::new(FetchedAhead::new(Duration::from_secs(AHEAD)));
-    let script = [Step::Moves(0, brought)];
+    let script = [ScriptStep::Moves(0, brought)];
     let watched = || Watched {
         script: Scripted::new(&clock, &script),
         at_hand: &at_hand,
@@ -163,7 +163,7 @@ fn check_lines(
     let (clock, at_hand) = (HandClock::new(), Cell::new(true));
     let waiting = Cell::new(Waiting::of_seconds(PATIENCE));
     let turn = Cell::new(FetchedAhead::new(Duration::from_secs(AHEAD)));
-    let script = [Step::Moves(0, brought)];
+    let script = [ScriptStep::Moves(0, brought)];
     let watched = Watched {
         script: Scripted::new(&clock, &script),
         at_hand: &at_hand,

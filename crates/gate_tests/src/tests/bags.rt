@@ -4,7 +4,7 @@ ghost use Rattle.std.specs.Prelude.{◌≡◌, ◌+◌};
 ghost use Rattle.gate_lock.specs.Bags.{held_in, KeepsBalance};
 ghost use Rattle.gate_lock.specs.Desks.{out_of};
 
-use super::desk_calls::{Form, fetch, granted};
+use super::desk_calls::{CallForm, fetch, granted};
 use super::gates::{PAGE, book};
 use gate_core::Denial;
 use gate_history::{Cause, Reason};
@@ -62,7 +62,7 @@ fn with_permit<G: Gate, R: Wait>(
     ensures { out_of desk.new ≡ 0 }
 {
     let site = Authority::new(alloc, "a.example")?;
-    fetch(rt, desk, Form::Plain, &site, 100).ok();
+    fetch(rt, desk, CallForm::Plain, &site, 100).ok();
     match Bag::new(alloc, desk) {
         Ok(bag) => in_a_bag(rt, alloc, desk, bag),
         Err(_) => Err(Fail::new("a bag takes no memory to speak of")),
@@ -80,7 +80,7 @@ fn in_a_bag<G: Gate, R: Wait>(
     ensures { out_of desk.new ≡ 0 }
 {
     let mut bag = bag;
-    if let Some(permit) = granted(rt, alloc, desk, Form::Plain, PAGE) {
+    if let Some(permit) = granted(rt, alloc, desk, CallForm::Plain, PAGE) {
         keep(rt, desk, &mut bag, permit);
     }
     let steps = make_steps(rt, alloc, desk, &mut bag);

@@ -20,7 +20,7 @@ use std::test::Fail;
 
 // The form of the calls.
 #[derive(Clone, Copy)]
-pub(super) enum Form {
+pub(super) enum CallForm {
     Plain,
     Held,
 }
@@ -30,7 +30,7 @@ pub(super) enum Form {
 pub(super) fn fetch<G: Gate, R: Wait>(
     rt: &R,
     desk: &mut Desk<'_, G>,
-    form: Form,
+    form: CallForm,
     site: &Authority,
     moment: u64,
 ) -> Result<u64, BeginRefusal>
@@ -47,7 +47,7 @@ pub(super) fn fetch<G: Gate, R: Wait>(
 pub(super) fn begin<G: Gate, R: Wait>(
     rt: &R,
     desk: &mut Desk<'_, G>,
-    form: Form,
+    form: CallForm,
     site: &Authority,
     moment: u64,
 ) -> Result<RobotsTurn<G>, BeginRefusal>
@@ -56,8 +56,8 @@ pub(super) fn begin<G: Gate, R: Wait>(
     ensures err { OnErr result (KeepsOut desk.old desk.new) }
 {
     match form {
-        Form::Plain => desk.begin(rt, site, moment),
-        Form::Held => {
+        CallForm::Plain => desk.begin(rt, site, moment),
+        CallForm::Held => {
             let mut held = desk.lend(rt);
             desk.begin_in(&mut held, site, moment)
         }
@@ -69,7 +69,7 @@ pub(super) fn granted<G: Gate, R: Wait>(
     rt: &R,
     alloc: Global,
     desk: &mut Desk<'_, G>,
-    form: Form,
+    form: CallForm,
     page: &str,
 ) -> Option<Permit<G>>
     ensures no { desk.new.no ≡ desk.old.no }
@@ -86,7 +86,7 @@ pub(super) fn asked<G: Gate, R: Wait>(
     rt: &R,
     alloc: Global,
     desk: &mut Desk<'_, G>,
-    form: Form,
+    form: CallForm,
     token: Token,
     url: PageUrl,
 ) -> Result<Permit<G>, AskRefusal>
@@ -95,8 +95,8 @@ pub(super) fn asked<G: Gate, R: Wait>(
     ensures err { OnErr result (KeepsOut desk.old desk.new) }
 {
     match form {
-        Form::Plain => desk.ask(rt, token, url, 110),
-        Form::Held => {
+        CallForm::Plain => desk.ask(rt, token, url, 110),
+        CallForm::Held => {
             let ask = DeskAsk::new(alloc, token, url)?;
             let mut held = desk.lend(rt);
             desk.ask_in(&mut held, ask, 110)
@@ -109,7 +109,7 @@ pub(super) fn bring<G: Gate, R: Wait>(
     rt: &R,
     alloc: Global,
     gate: &GateLock<G>,
-    form: Form,
+    form: CallForm,
     all: &mut Vec<Receipts<G>>,
 ) -> Result<(), Fail> {
     let site = Authority::new(alloc, "a.example")?;
@@ -120,7 +120,7 @@ fn bring_for<G: Gate, R: Wait>(
     rt: &R,
     alloc: Global,
     gate: &GateLock<G>,
-    form: Form,
+    form: CallForm,
     site: &Authority,
     all: &mut Vec<Receipts<G>>,
 ) -> Result<(), Fail> {
@@ -140,7 +140,7 @@ pub(super) fn give_back<G: Gate, R: Wait>(
     rt: &R,
     alloc: Global,
     gate: &GateLock<G>,
-    form: Form,
+    form: CallForm,
     page: &str,
     all: &mut Vec<Receipts<G>>,
 ) -> Result<Settlements, Fail> {
@@ -157,7 +157,7 @@ fn settlements<G: Gate, R: Wait>(
     rt: &R,
     alloc: Global,
     gate: &GateLock<G>,
-    form: Form,
+    form: CallForm,
     page: &str,
     desk: &mut Desk<'_, G>,
     others: &[Receipts<G>],
@@ -176,7 +176,7 @@ pub(super) fn round<G: Gate, R: Wait>(rt: &R, alloc: Global, desk: &mut Desk<'_,
     ensures no { desk.new.no ≡ desk.old.no }
     ensures out { KeepsOut desk.old desk.new }
 {
-    let Some(permit) = granted(rt, alloc, desk, Form::Plain, PAGE) else {
+    let Some(permit) = granted(rt, alloc, desk, CallForm::Plain, PAGE) else {
         return false;
     };
     let Ok(run) = desk.start(rt, permit, 110) else {
@@ -211,14 +211,14 @@ pub(super) fn worked<G: Gate, R: Wait>(
 pub(super) fn sweep<G: Gate, R: Wait>(
     rt: &R,
     desk: &mut Desk<'_, G>,
-    form: Form,
+    form: CallForm,
     moment: u64,
 ) -> Result<u64, SweepRefusal>
     ensures out { KeepsOut desk.old desk.new }
 {
     match form {
-        Form::Plain => desk.sweep(rt, moment),
-        Form::Held => {
+        CallForm::Plain => desk.sweep(rt, moment),
+        CallForm::Held => {
             let mut held = desk.lend(rt);
             desk.sweep_in(&mut held, moment)
         }
@@ -228,7 +228,7 @@ pub(super) fn sweep<G: Gate, R: Wait>(
 pub(super) fn state<G: Gate, R: Wait>(
     rt: &R,
     desk: &mut Desk<'_, G>,
-    form: Form,
+    form: CallForm,
     name: &str,
     moment: u64,
 ) -> State
@@ -236,8 +236,8 @@ pub(super) fn state<G: Gate, R: Wait>(
     ensures out { KeepsOut desk.old desk.new }
 {
     match form {
-        Form::Plain => desk.state_of(rt, name, moment),
-        Form::Held => {
+        CallForm::Plain => desk.state_of(rt, name, moment),
+        CallForm::Held => {
             let mut held = desk.lend(rt);
             desk.state_in(&mut held, name, moment)
         }

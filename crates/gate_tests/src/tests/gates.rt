@@ -3,7 +3,7 @@
 ghost use Rattle.std.specs.Prelude.{◌≡◌, ◌≤◌, [], IfOk};
 ghost use Rattle.gate_history.specs.Base.{empty_base};
 
-use super::desk_calls::{Form, bring, give_back};
+use super::desk_calls::{CallForm, bring, give_back};
 use authority_cache::{LIFE, TurnNo};
 use gate_core::{Book, Config, Limits, NoMemory};
 use gate_history::{Entry, FetchText};
@@ -49,7 +49,7 @@ type Settlements = [Result<Settled, SettleFault>; 3];
 struct SettleRow<'r, R: Wait> {
     rt: &'r R,
     alloc: Global,
-    form: Form,
+    form: CallForm,
 }
 
 impl<R: Wait> Visit for SettleRow<'_, R> {
@@ -64,7 +64,7 @@ fn settle_both<G: Gate, R: Wait>(
     rt: &R,
     alloc: Global,
     gate: &GateLock<G>,
-    form: Form,
+    form: CallForm,
 ) -> Result<Settlements, Fail> {
     let mut all = Vec::new(alloc);
     settle_with(rt, alloc, gate, form, &mut all)
@@ -74,7 +74,7 @@ fn settle_with<G: Gate, R: Wait>(
     rt: &R,
     alloc: Global,
     gate: &GateLock<G>,
-    form: Form,
+    form: CallForm,
     all: &mut Vec<Receipts<G>>,
 ) -> Result<Settlements, Fail> {
     bring(rt, alloc, gate, form, all)?;
@@ -177,8 +177,8 @@ fn fit_those<G: Gate, R: Wait>(
     page: &str,
     all: &mut Vec<Receipts<G>>,
 ) -> Result<[bool; 2], Fail> {
-    bring(rt, alloc, gate, Form::Plain, all)?;
-    let _early = give_back(rt, alloc, gate, Form::Plain, page, all)?;
+    bring(rt, alloc, gate, CallForm::Plain, all)?;
+    let _early = give_back(rt, alloc, gate, CallForm::Plain, page, all)?;
     are_fit(alloc, all.as_slice())
 }
 
@@ -193,7 +193,7 @@ fn a_gate_is_settled_by_all_receipts(rt: HostRuntime) -> Result<(), Fail> {
             starts: 0,
         }),
     ];
-    for form in [Form::Plain, Form::Held] {
+    for form in [CallForm::Plain, CallForm::Held] {
         let row = SettleRow {
             rt: &rt,
             alloc: rt.alloc(),

@@ -2,7 +2,7 @@
 //! RFC 9309, sections 2.3 and 2.4.
 ghost use Rattle.gate_lock.specs.Desks.{KeepsOut};
 
-use super::desk_calls::{Form, denial, fetch, state, sweep};
+use super::desk_calls::{CallForm, denial, fetch, state, sweep};
 use super::gates::book;
 use gate_core::{BeginRefusal, Standing, State, SweepRefusal};
 use gate_history::Cause;
@@ -57,7 +57,7 @@ struct Limited {
 struct LimitRow<'r, R: Wait> {
     rt: &'r R,
     alloc: Global,
-    form: Form,
+    form: CallForm,
 }
 
 impl<R: Wait> Visit for LimitRow<'_, R> {
@@ -72,7 +72,7 @@ fn one_at_a_time<G: Gate, R: Wait>(
     rt: &R,
     alloc: Global,
     gate: &GateLock<G>,
-    form: Form,
+    form: CallForm,
 ) -> Result<Limited, Fail> {
     let mut desk = gate.desk(rt, alloc)?;
     let limited = at_a_desk(rt, alloc, &mut desk, form);
@@ -84,7 +84,7 @@ fn at_a_desk<G: Gate, R: Wait>(
     rt: &R,
     alloc: Global,
     desk: &mut Desk<'_, G>,
-    form: Form,
+    form: CallForm,
 ) -> Result<Limited, Fail>
     ensures { KeepsOut desk.old desk.new }
 {
@@ -97,7 +97,7 @@ fn of_two<G: Gate, R: Wait>(
     rt: &R,
     alloc: Global,
     desk: &mut Desk<'_, G>,
-    form: Form,
+    form: CallForm,
     site: &Authority,
     other: &Authority,
 ) -> Result<Limited, Fail>
@@ -140,7 +140,7 @@ fn one_authority_is_known_at_a_time(rt: HostRuntime) -> Result<(), Fail> {
         free: Ok(2),
         denied: Some(Cause::Unknown),
     };
-    for form in [Form::Plain, Form::Held] {
+    for form in [CallForm::Plain, CallForm::Held] {
         let row = LimitRow {
             rt: &rt,
             alloc: rt.alloc(),

@@ -3,7 +3,7 @@
 ghost use Rattle.std.specs.Prelude.{◌≡◌, ◌^◌, ◌<◌, [], true};
 ghost use Rattle.gate_history.specs.Base.{empty_base};
 
-use super::desk_calls::{Form, bring, rounds, worked};
+use super::desk_calls::{CallForm, bring, rounds, worked};
 use super::gates::{PAGE, book};
 use super::indexes::load;
 use gate_core::Book;
@@ -97,7 +97,7 @@ fn from_nothing<G: Gate, R: Wait>(
 {
     let (gate, past): (GateLock<G>, Receipts<G>) = GateLock::resume(alloc, book, blanks);
     let mut all = Vec::new(alloc);
-    bring(rt, alloc, &gate, Form::Plain, &mut all)?;
+    bring(rt, alloc, &gate, CallForm::Plain, &mut all)?;
     settlements(rt, alloc, &gate, past, &mut all)
 }
 

@@ -4,7 +4,7 @@ ghost use Rattle.std.specs.Prelude.{◌≡◌, []};
 ghost use Rattle.gate_history.specs.Base.{empty_base};
 ghost use Rattle.gate_lock.specs.Desks.{out_of};
 
-use super::desk_calls::{Form, bring, round, worked};
+use super::desk_calls::{CallForm, bring, round, worked};
 use super::gates::book;
 use super::threads::keep;
 use gate_core::{Book, NoMemory};
@@ -21,7 +21,7 @@ use std::thread::Threads;
 // The results: the settlement, the entries handed out, whether all receipts agree with them, and whether
 // any receipts keep only the places of entries.
 #[derive(Clone, Copy, Debug, PartialEq)]
-struct Outcome {
+struct SealOutcome {
     settled: Result<Settled, SettleFault>,
     handed_out: usize,
     agree: bool,
@@ -47,13 +47,13 @@ fn sealed_by_one<G: Gate + Send + Sync, R: Threads + Wait + Sync>(
     book: Book,
     blanks: Blanks,
     marks: Marks,
-) -> Result<Outcome, Fail>
+) -> Result<SealOutcome, Fail>
     requires book { (book.base ≡ empty_base) × (book.entries ≡ []) }
     requires blanks { blanks ≡ G.ledgers }
 {
     let gate: GateLock<G> = GateLock::new(book, blanks);
     let mut all = Vec::new(alloc);
-    bring(rt, alloc, &gate, Form::Plain, &mut all)?;
+    bring(rt, alloc, &gate, CallForm::Plain, &mut all)?;
     at_a_gate(rt, alloc, &gate, &mut all, marks)
 }
 
@@ -64,7 +64,7 @@ fn at_a_gate<G: Gate + Send + Sync, R: Threads + Wait + Sync>(
     gate: &GateLock<G>,
     all: &mut Vec<Receipts<G>>,
     marks: Marks,
-) -> Result<Outcome, Fail> {
+) -> Result<SealOutcome, Fail> {
     let (one, other) = thread::join(
         rt,
         move || seal_meanwhile(rt, alloc, gate, marks, 10),
@@ -80,7 +80,7 @@ fn at_a_gate<G: Gate + Send + Sync, R: Threads + Wait + Sync>(
     if kept != [true, true, true] {
         return Err(Fail::new("no desk, or no memory for its receipts"));
     }
-    Ok(Outcome {
+    Ok(SealOutcome {
         settled: settle(rt, alloc, gate, all.as_slice()),
         handed_out: entries_of(segments.as_slice()),
         agree: all_agree(all.as_slice(), segments.as_slice()),
@@ -198,7 +198,7 @@ fn a_gate_is_sealed_meanwhile(rt: HostRuntime) -> Result<(), Fail> {
         ("its marks stay whole", Marks::Whole, false),
         ("of sealed entries it keeps places", Marks::Condensed, true),
     ] {
-        let want = Outcome {
+        let want = SealOutcome {
             settled: Ok(Settled {
                 events: 602,
                 starts: 200,

@@ -4,7 +4,7 @@ ghost use Rattle.std.specs.Prelude.{◌≡◌, ◌+◌};
 ghost use Rattle.gate_lock.specs.Desks.{KeepsOut, out_of};
 
 use super::bags::{keep, started};
-use super::desk_calls::{Form, asked, fetch, granted};
+use super::desk_calls::{CallForm, asked, fetch, granted};
 use super::gates::{PAGE, add_entries, book};
 use gate_core::AskRefusal;
 use gate_history::{Cause, Entry, Reason};
@@ -141,12 +141,12 @@ fn first_session<G: Gate, R: Wait>(
     ensures { (out_of first.new ≡ 0) × (out_of second.new ≡ 0) }
 {
     let site = Authority::new(alloc, "a.example")?;
-    fetch(rt, first, Form::Plain, &site, 100).ok();
+    fetch(rt, first, CallForm::Plain, &site, 100).ok();
     let Ok(mut bag) = Bag::new(alloc, first) else {
         return Err(Fail::new("no bag"));
     };
     let mut number = None;
-    if let Some(permit) = granted(rt, alloc, first, Form::Plain, PAGE) {
+    if let Some(permit) = granted(rt, alloc, first, CallForm::Plain, PAGE) {
         number = Some(permit.number().number());
         keep(rt, first, &mut bag, permit);
     }
@@ -186,7 +186,7 @@ fn is_full<G: Gate, R: Wait>(rt: &R, alloc: Global, desk: &mut Desk<'_, G>) -> R
 {
     let token = Token::new(alloc, b"foobot")?;
     let url = PageUrl::parse(alloc, PAGE)?;
-    match asked(rt, alloc, desk, Form::Plain, token, url) {
+    match asked(rt, alloc, desk, CallForm::Plain, token, url) {
         Ok(permit) => {
             desk.back(rt, permit);
             Ok(false)
@@ -200,7 +200,7 @@ fn is_full<G: Gate, R: Wait>(rt: &R, alloc: Global, desk: &mut Desk<'_, G>) -> R
 fn last_ask<G: Gate, R: Wait>(rt: &R, alloc: Global, desk: &mut Desk<'_, G>) -> Option<u64>
     ensures { KeepsOut desk.old desk.new }
 {
-    let permit = granted(rt, alloc, desk, Form::Plain, PAGE)?;
+    let permit = granted(rt, alloc, desk, CallForm::Plain, PAGE)?;
     let number = permit.number().number();
     desk.back(rt, permit);
     Some(number)

@@ -3,7 +3,7 @@
 ghost use Rattle.std.specs.Prelude.{◌≡◌};
 ghost use Rattle.gate_lock.specs.Desks.{KeepsOut};
 
-use super::desk_calls::{Form, begin, state};
+use super::desk_calls::{CallForm, begin, state};
 use super::gates::book;
 use authority_cache::TimedAnswer;
 use gate_core::{Standing, State};
@@ -69,7 +69,7 @@ const ROWS: &[(&str, Brought, u64, u64, Standing)] = &[
 struct StateRow<'r, R: Wait> {
     rt: &'r R,
     alloc: Global,
-    form: Form,
+    form: CallForm,
     brought: Brought,
     life: u64,
     moment: u64,
@@ -110,7 +110,7 @@ fn states<G: Gate, R: Wait>(
     rt: &R,
     alloc: Global,
     desk: &mut Desk<'_, G>,
-    form: Form,
+    form: CallForm,
     answer: TimedAnswer,
     moment: u64,
 ) -> Result<[State; 3], Fail>
@@ -134,7 +134,7 @@ fn states<G: Gate, R: Wait>(
 fn a_desk_tells_what_stands(rt: HostRuntime) -> Result<(), Fail> {
     let keys = RandomState::new(&rt)?;
     for (name, brought, life, moment, standing) in ROWS {
-        for form in [Form::Plain, Form::Held] {
+        for form in [CallForm::Plain, CallForm::Held] {
             let row = StateRow {
                 rt: &rt,
                 alloc: rt.alloc(),

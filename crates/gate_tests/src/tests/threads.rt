@@ -3,7 +3,7 @@
 ghost use Rattle.std.specs.Prelude.{◌≡◌, []};
 ghost use Rattle.gate_history.specs.Base.{empty_base};
 
-use super::desk_calls::{Form, bring, worked};
+use super::desk_calls::{CallForm, bring, worked};
 use super::gates::book;
 use gate_core::Book;
 use gate_lock::{Blanks, DesksFull, Gate, GateLock, Receipts, SettleFault, Settled, settle};
@@ -36,7 +36,7 @@ fn at_a_gate<G: Gate + Send + Sync, R: Threads + Wait + Sync>(
     gate: &GateLock<G>,
     all: &mut Vec<Receipts<G>>,
 ) -> Result<Result<Settled, SettleFault>, Fail> {
-    bring(rt, alloc, gate, Form::Plain, all)?;
+    bring(rt, alloc, gate, CallForm::Plain, all)?;
     let (one, other) = thread::join(
         rt,
         move || worked(rt, alloc, gate),

@@ -19,12 +19,12 @@ const ROUNDS: usize = 25;
 
 // The numbers entered, from 0.
 #[derive(Drop)]
-struct Numbers {
+struct NumberedEntries {
     alloc: Global,
     count: AtomicU64,
 }
 
-impl Numbers {
+impl NumberedEntries {
     // The lines of the numbers in a range.
     fn lines(&self, from: u64, to: u64) -> Result<Vec<u8>, JournalFault> {
         let mut text = Vec::new(self.alloc);
@@ -36,7 +36,7 @@ impl Numbers {
     }
 }
 
-impl Chronicle for Numbers {
+impl Chronicle for NumberedEntries {
     ghost follows = { λ _ _ _ _. ⊤ };
 
     ghost begins = { λ _ _ _. ⊤ };
@@ -93,7 +93,7 @@ impl Sealer for Seal {
         _output: &mut Output,
         place: JournalPosition,
     ) -> Option<Result<Vec<u8>, JournalFault>> {
-        let numbers = Numbers {
+        let numbers = NumberedEntries {
             alloc,
             count: AtomicU64::new(*sealed),
         };
@@ -104,7 +104,7 @@ impl Sealer for Seal {
 #[test]
 fn each_finds_what_it_entered(rt: HostRuntime) -> Result<(), Fail> {
     let alloc = rt.alloc();
-    let numbers = Numbers {
+    let numbers = NumberedEntries {
         alloc,
         count: AtomicU64::new(0),
     };

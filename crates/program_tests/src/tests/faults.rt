@@ -1,7 +1,7 @@
 //! A session whose read or write fails, at every call in turn.
 
 use super::{demand, new_writer, session};
-use command_server::SessionFault;
+use command_lines::SessionFault;
 use counted_io::FailAt;
 use std::alloc::Global;
 use std::test::Fail;

@@ -3,7 +3,7 @@
 ghost use Rattle.std.specs.Prelude.{None};
 
 use super::{demand, new_book};
-use command_server::replay;
+use command_lines::replay;
 use counted_io::{DeviceFault, LINE_BUFFER, Sink, Source};
 use gate_core::Book;
 use std::cell::Cell;
@@ -15,11 +15,11 @@ const REPLY: &str = "ERR notout\n";
 
 // A sink that counts its octets.
 #[derive(Drop)]
-struct Tally<'a> {
+struct CountingSink<'a> {
     written: &'a Cell<usize>,
 }
 
-impl<'a> Sink for Tally<'a> {
+impl<'a> Sink for CountingSink<'a> {
     ghost written = { λ _. None };
 
     ghost failures = { λ _. 0 };
@@ -33,7 +33,7 @@ impl<'a> Sink for Tally<'a> {
 
 // A source of lines that fails if the reply to a whole line isn't written yet.
 #[derive(Drop)]
-struct Waiting<'a> {
+struct WaitingSource<'a> {
     input: &'a [u8],
     cut: usize,
     due: usize,
@@ -41,7 +41,7 @@ struct Waiting<'a> {
     failures: u64,
 }
 
-impl<'a> Source for Waiting<'a> {
+impl<'a> Source for WaitingSource<'a> {
     ghost left = { λ _. None };
 
     ghost failures = { λ s. s.failures };
@@ -74,14 +74,14 @@ fn written_over(
     cut: usize,
 ) -> Result<usize, Fail> {
     let written = Cell::new(0);
-    let mut source = Waiting {
+    let mut source = WaitingSource {
         input,
         cut,
         due: 0,
         written: &written,
         failures: 0,
     };
-    let mut sink = Tally { written: &written };
+    let mut sink = CountingSink { written: &written };
     replay(rt.alloc(), &mut source, &mut sink, book)?;
     Ok(written.get())
 }

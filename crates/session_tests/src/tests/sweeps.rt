@@ -5,11 +5,11 @@ ghost use Rattle.gate_history.specs.Base.{empty_base};
 
 use super::{PAGES, book, demand};
 use client_connections::{Connections, Listener};
-use crawl_workers::Clock;
 use gate_core::{Book, Limits};
 use gate_lock::{Blanks, Gate, GateLock};
 use keepers::Bounds;
 use line_server::{Alarm, Server};
+use page_worker::Clock;
 use scripted_sites::ScriptedSites;
 use std::alloc::Global;
 use std::io::{Read, Write};

@@ -35,14 +35,14 @@ const SECOND: &str = "ERR permits\nNO a.example spent\nPERMIT 131072\n";
 // A client that sends a line when its turn comes. A read for the next line shows that the one before is
 // answered.
 #[derive(Drop)]
-struct Turns<'t, R: time::Clock> {
+struct TimedReads<'t, R: time::Clock> {
     rt: &'t R,
     session: u64,
     turn: &'t AtomicU64,
     handed: bool,
 }
 
-impl<R: time::Clock> Turns<'_, R> {
+impl<R: time::Clock> TimedReads<'_, R> {
     // Waits for this session's turn and gives its line; none at the end.
     fn next_line(&mut self) -> Option<&'static str> {
         if self.handed {
@@ -64,7 +64,7 @@ impl<R: time::Clock> Turns<'_, R> {
     }
 }
 
-impl<R: time::Clock> Read for Turns<'_, R> {
+impl<R: time::Clock> Read for TimedReads<'_, R> {
     fn read(&mut self, buf: &mut [u8]) -> io::Result<usize> {
         let Some(line) = self.next_line() else {
             return Ok(0);
@@ -87,7 +87,7 @@ fn session<G: Gate, R: Wait + time::Clock>(
         alloc,
         pages: &PAGES,
     };
-    let mut reader = Counted::new(Turns {
+    let mut reader = Counted::new(TimedReads {
         rt,
         session,
         turn,

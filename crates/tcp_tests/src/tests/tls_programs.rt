@@ -66,7 +66,7 @@ impl<'a, R: time::Clock> time::Clock for TwoAddresses<'a, R> {
 
 // What the program does with a connection after reading the header.
 #[derive(Clone, Copy)]
-enum Turn {
+enum PeerStep {
     Closes,
     // Closes with the request unread, which resets the connection.
     Resets,
@@ -76,7 +76,7 @@ enum Turn {
 }
 
 // Accepts a connection for each turn, and returns all that was read.
-fn play(alloc: Global, listener: &TcpListener, turns: &[Turn]) -> io::Result<Vec<u8>> {
+fn play(alloc: Global, listener: &TcpListener, turns: &[PeerStep]) -> io::Result<Vec<u8>> {
     let mut seen = Vec::new(alloc);
     for turn in turns {
         let mut stream = accept(listener)?;
@@ -86,17 +86,17 @@ fn play(alloc: Global, listener: &TcpListener, turns: &[Turn]) -> io::Result<Vec
     Ok(seen)
 }
 
-fn take_turn(stream: &mut TcpStream, seen: &mut Vec<u8>, turn: Turn) -> io::Result<()> {
+fn take_turn(stream: &mut TcpStream, seen: &mut Vec<u8>, turn: PeerStep) -> io::Result<()> {
     match turn {
-        Turn::Resets => {
+        PeerStep::Resets => {
             stream.peek(&mut [0])?;
         }
-        Turn::Closes => read_head(stream, seen)?,
-        Turn::Sends(text) => {
+        PeerStep::Closes => read_head(stream, seen)?,
+        PeerStep::Sends(text) => {
             read_head(stream, seen)?;
             send(stream, text)?;
         }
-        Turn::Waits => {
+        PeerStep::Waits => {
             read_head(stream, seen)?;
             stream.read(&mut [0])?;
         }
@@ -124,7 +124,7 @@ struct Played {
 }
 
 // Fetches a page of a host with two addresses, through a program with these turns.
-fn run<R>(rt: &R, alloc: Global, turns: &[Turn], limits: TimeLimits) -> Result<Played, Fail>
+fn run<R>(rt: &R, alloc: Global, turns: &[PeerStep], limits: TimeLimits) -> Result<Played, Fail>
 where
     R: Net<Listener = TcpListener, Stream = TcpStream> + time::Clock + Threads + Sync,
 {
@@ -151,41 +151,41 @@ fn page(alloc: Global) -> Result<PageUrl, Fail> {
 const ANSWER: &str = "HTTP/1.1 200 OK|Content-Length: 5||hello";
 
 // A name, the program's turns, the fetch's result, and why it failed.
-const TURNS: [(&str, &[Turn], &str, Option<Failure>); 7] = [
-    ("an answer", &[Turn::Sends(ANSWER)], "200 hello", None),
+const TURNS: [(&str, &[PeerStep], &str, Option<Failure>); 7] = [
+    ("an answer", &[PeerStep::Sends(ANSWER)], "200 hello", None),
     (
         "an answer of the second address",
-        &[Turn::Closes, Turn::Sends(ANSWER)],
+        &[PeerStep::Closes, PeerStep::Sends(ANSWER)],
         "200 hello",
         None,
     ),
     (
         "the same behind a reset",
-        &[Turn::Resets, Turn::Sends(ANSWER)],
+        &[PeerStep::Resets, PeerStep::Sends(ANSWER)],
         "200 hello",
         None,
     ),
     (
         "none of any address",
-        &[Turn::Closes, Turn::Closes],
+        &[PeerStep::Closes, PeerStep::Closes],
         "EarlyEnd",
         Some(Failure::NoTls),
     ),
     (
         "a reset by each address",
-        &[Turn::Resets, Turn::Resets],
+        &[PeerStep::Resets, PeerStep::Resets],
         "Device",
         Some(Failure::NoTls),
     ),
     (
         "an end behind one octet",
-        &[Turn::Sends("H")],
+        &[PeerStep::Sends("H")],
         "EarlyEnd",
         None,
     ),
     (
         "no HTTP",
-        &[Turn::Sends("220 mail.a.example ESMTP||")],
+        &[PeerStep::Sends("220 mail.a.example ESMTP||")],
         "BadHead",
         None,
     ),
@@ -204,7 +204,7 @@ fn turns_of_a_tls_program(rt: HostRuntime) -> Result<(), Fail> {
 // A silent program is waited for like a server, and no other address is tried.
 #[test]
 fn a_silent_tls_program(rt: HostRuntime) -> Result<(), Fail> {
-    let Played { told, seen: _ } = run(&rt, rt.alloc(), &[Turn::Waits], hasty(50, 20_000))?;
+    let Played { told, seen: _ } = run(&rt, rt.alloc(), &[PeerStep::Waits], hasty(50, 20_000))?;
     assert_eq!(rt; told.text.as_str(), "Device");
     assert_eq!(rt;
         told.failure,
@@ -219,7 +219,7 @@ const REQUEST: &[u8] =
 // Each address gets its own header, and then the request.
 #[test]
 fn a_header_for_each_address(rt: HostRuntime) -> Result<(), Fail> {
-    let turns = [Turn::Closes, Turn::Sends(ANSWER)];
+    let turns = [PeerStep::Closes, PeerStep::Sends(ANSWER)];
     let Played { told: _, seen } = run(&rt, rt.alloc(), &turns, patient())?;
     let mut wanted = Vec::new(rt.alloc());
     for address in addresses() {

@@ -3,7 +3,7 @@ use Rattle.std.proofs.Common.{◌≡◌}
 use Rattle.std.specs.Prelude.{codes}
 use Rattle.counted_io.proofs.CallerLemmas.{prefix_piece}
 use Rattle.line_text.proofs.CallerLemmas.{pushes_cut, pushes_then}
-use Rattle.command_server.specs.HopText.{hops_text}
+use Rattle.command_lines.specs.HopText.{hops_text}
 use Rattle.command_server.specs.ClientReplyText.{body_text}
 use Rattle.command_server.proofs.client_reply.push_fetched.Goals as goal
 

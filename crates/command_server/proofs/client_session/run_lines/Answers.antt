@@ -1,6 +1,6 @@
 -- A session from a client's state is one of its keeper, which stays the lent one, and of the next reading's number.
 use Rattle.command_server.specs.Clients.{AnswersClient}
-use Rattle.command_server.proofs.Lent.{session_seen}
+use Rattle.command_lines.proofs.Lent.{session_seen}
 use Rattle.command_server.proofs.client_session.run_lines.Goals as goal
 
 pub returns-clause-keeper : goal.returns-clause-keeper

@@ -5,7 +5,7 @@ use Rattle.std.specs.Prelude.{map}
 use Rattle.job_line.specs.Sums.{weigh_all, weigh_below}
 use Rattle.crawl_workers.specs.Crews.{AreAllDone, all_numbers, one_below, one_at_number}
 use Rattle.crawl_workers.specs.Orders.{IsOrder}
-use Rattle.crawl_workers.specs.World.{world_of}
+use Rattle.page_worker.specs.World.{world_of}
 use Rattle.crawl_workers.proofs.Drawing.{drawn_once}
 use Rattle.crawl_workers.proofs.Shifting.{all_jobs, done_once, lent_whole}
 use Rattle.crawl_workers.proofs.shift.do_jobs.Goals as goal

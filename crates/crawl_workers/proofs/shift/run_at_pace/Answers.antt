@@ -3,7 +3,7 @@
 use Rattle.std.proofs.Common.{ℕ, Vec, Global, sym, subst}
 use Rattle.std.specs.Prelude.{map}
 use Rattle.crawl_workers.specs.Shifts.{AreAllJobs, DoneView}
-use Rattle.crawl_workers.specs.World.{world_of}
+use Rattle.page_worker.specs.World.{world_of}
 use Rattle.crawl_workers.proofs.Shifting.{is_shift}
 use Rattle.crawl_workers.proofs.shift.run_at_pace.Goals as goal
 

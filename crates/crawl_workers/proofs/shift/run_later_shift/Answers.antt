@@ -3,7 +3,7 @@
 use Rattle.std.proofs.Common.{ℕ, Vec, Global, sym, subst, rules}
 use Rattle.std.specs.Prelude.{map}
 use Rattle.crawl_workers.specs.Shifts.{AreAllJobs, DoneView}
-use Rattle.crawl_workers.specs.World.{world_of}
+use Rattle.page_worker.specs.World.{world_of}
 use Rattle.crawl_workers.proofs.Shifting.{is_later_shift}
 use Rattle.crawl_workers.proofs.shift.run_later_shift.Goals as goal
 

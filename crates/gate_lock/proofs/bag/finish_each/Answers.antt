@@ -1,7 +1,7 @@
 -- Each step spends the last one left, so those spent are the last ones.
 use Rattle.std.proofs.Common.{◌≡◌, ◌++◌, [], ◌∷◌, List, ap, ◌∙◌, append_assoc, subst, arith}
 use Rattle.std.proofs.lemmas.List.Elements.{All-pop}
-use Rattle.gate_lock.specs.Bags.{kept_in}
+use Rattle.numbered_store.specs.Stores.{kept_in}
 use Rattle.gate_lock.specs.Desks.{Pass, Run}
 use Rattle.gate_lock.specs.Steps.{DeskFinishes, Somewhere}
 use Rattle.gate_lock.proofs.bag.finish_each.Goals as goal

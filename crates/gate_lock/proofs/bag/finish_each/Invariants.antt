@@ -1,6 +1,7 @@
 -- Those that were finished are the last ones.
 use Rattle.std.proofs.Common.{◌≡◌, ◌+◌, ◌++◌, List, length, All}
-use Rattle.gate_lock.specs.Bags.{kept_in, FinishesEach}
+use Rattle.numbered_store.specs.Stores.{kept_in}
+use Rattle.gate_lock.specs.Bags.{FinishesEach}
 use Rattle.gate_lock.specs.Desks.{out_of, Run}
 use Rattle.gate_lock.proofs.bag.finish_each.Given as goal
 

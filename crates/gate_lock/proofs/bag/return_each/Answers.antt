@@ -1,7 +1,7 @@
 -- Each step spends the last one left, so those spent are the last ones.
 use Rattle.std.proofs.Common.{◌≡◌, ◌++◌, [], ◌∷◌, List, ap, ◌∙◌, append_assoc, arith}
 use Rattle.std.proofs.lemmas.List.Elements.{All-pop}
-use Rattle.gate_lock.specs.Bags.{kept_in}
+use Rattle.numbered_store.specs.Stores.{kept_in}
 use Rattle.gate_lock.specs.Desks.{Pass}
 use Rattle.gate_lock.proofs.bag.return_each.Goals as goal
 

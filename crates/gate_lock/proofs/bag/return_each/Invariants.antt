@@ -1,6 +1,7 @@
 -- Those that were given back are the last ones.
 use Rattle.std.proofs.Common.{◌≡◌, ◌+◌, ◌++◌, List, length, All}
-use Rattle.gate_lock.specs.Bags.{kept_in, ReturnsEach}
+use Rattle.numbered_store.specs.Stores.{kept_in}
+use Rattle.gate_lock.specs.Bags.{ReturnsEach}
 use Rattle.gate_lock.specs.Desks.{out_of, Pass}
 use Rattle.gate_lock.proofs.bag.return_each.Given as goal
 

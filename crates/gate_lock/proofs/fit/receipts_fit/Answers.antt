@@ -1,7 +1,15 @@
--- The places of receipts that fit ascend.
-use Rattle.std.proofs.Common.{rules}
-use Rattle.gate_lock.proofs.Merging.{fit_ascends}
+-- Receipts are the lists of marks that they have.
+use Rattle.std.proofs.Common.{◌≡◌, List, [], ◌∷◌, map, refl, ap, subst}
+use Rattle.std.specs.Prelude.{◌↔◌, IfOk, IsTrue}
+use Rattle.gate_marks.specs.Fitting.{MarksFit}
+use Rattle.gate_marks.specs.Marks.{Receipt}
 use Rattle.gate_lock.proofs.fit.receipts_fit.Goals as goal
 
-pub each_once-requires : goal.each_once-requires
-each_once-requires g c = fit_ascends c.args.sealed c.args.history.now c.args.all.now (search rules)
+own : (rs : List Receipt) → map (λ r. r) rs ≡ rs
+own [] = refl
+own (r ∷ rs) = ap (λ rest. r ∷ rest) (own rs)
+
+pub returns : goal.returns
+returns g c =
+    subst (λ (rs : List Receipt). IfOk c.lists_fit.result (λ fit. IsTrue fit ↔ MarksFit c.args.sealed c.args.history.now rs))
+    (own c.args.all.now) c.lists_fit.ensures

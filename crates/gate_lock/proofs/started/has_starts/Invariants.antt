@@ -1,6 +1,6 @@
 -- The remaining count is that of the remaining lists.
 use Rattle.std.proofs.Common.{◌≡◌, ◌+◌, length}
-use Rattle.gate_lock.specs.Marks.{starts_of_all}
+use Rattle.gate_marks.specs.Marks.{starts_of_all}
 use Rattle.gate_lock.proofs.started.has_starts.Given as goal
 
 abbrev pub invariant-loop-rest : goal.invariant-loop-rest

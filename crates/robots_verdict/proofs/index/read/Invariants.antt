@@ -7,4 +7,4 @@ use Rattle.robots_verdict.proofs.index.read.Given as goal
 
 abbrev pub invariant-loop-item : goal.invariant-loop-item
 invariant-loop-item l =
-    IsReading (grouped_records l.text) (grouped_left l.records) l.rows.rows l.rows.octets (map name_seen l.names.names.items) l.names.everybody.items
+    IsReading (grouped_records l.normal) (grouped_left l.records) l.rows.rows l.rows.octets (map name_seen l.names.names.items) l.names.everybody.items

@@ -1,7 +1,7 @@
 -- The reply reaches the output, or is cut there.
 use Rattle.std.proofs.Common.{refl, rules}
 use Rattle.counted_io.proofs.CallerLemmas.{on_err}
-use Rattle.command_server.specs.Answers.{ends_session}
+use Rattle.command_lines.specs.Answers.{ends_session}
 use Rattle.command_server.specs.ClientReplyText.{client_reply_text}
 use Rattle.command_server.proofs.client_lines.ClientLinesAnswererClient.answer.Goals as goal
 

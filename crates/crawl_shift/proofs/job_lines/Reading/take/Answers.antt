@@ -1,6 +1,6 @@
 -- A line that is no job leaves the list unchanged, and its fault is kept or ends the reading.
 use Rattle.std.proofs.Common.{refl}
-use Rattle.command_server.specs.Answers.{ends_session}
+use Rattle.command_lines.specs.Answers.{ends_session}
 use Rattle.crawl_shift.proofs.Sorting.{met_of}
 use Rattle.crawl_shift.proofs.job_lines.Reading.take.Goals as goal
 

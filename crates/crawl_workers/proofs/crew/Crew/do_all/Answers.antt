@@ -4,7 +4,7 @@ use Rattle.std.proofs.Common.{◌∙◌, ap, arith}
 use Rattle.std.specs.Prelude.{length}
 use Rattle.std.proofs.lemmas.List.{length-map}
 use Rattle.crawl_workers.specs.Crews.{newcomer}
-use Rattle.crawl_workers.specs.World.{world_of}
+use Rattle.page_worker.specs.World.{world_of}
 use Rattle.crawl_workers.proofs.Handing.{all_new, did_all, workers_end}
 use Rattle.crawl_workers.proofs.crew.Crew.do_all.Goals as goal
 

@@ -2,8 +2,8 @@
 -- Used by `Crew::do_job`.
 use Rattle.std.proofs.Common.{◌≡◌, refl, subst}
 use Rattle.crawl_job.specs.declared.job.Job.{Job}
-use Rattle.crawl_workers.specs.Outcomes.{IsOutcome}
-use Rattle.crawl_workers.specs.World.{world_of}
+use Rattle.page_worker.specs.Outcomes.{IsOutcome}
+use Rattle.page_worker.specs.World.{world_of}
 use Rattle.crawl_workers.proofs.crew.Crew.do_job.Goals as goal
 
 pub returns-clause-ok : goal.returns-clause-ok

@@ -5,8 +5,8 @@ use Rattle.std.specs.Prelude.{map}
 use Rattle.std.proofs.lemmas.List.{map-append}
 use Rattle.crawl_workers.specs.declared.crew.Done.{Done}
 use Rattle.crawl_workers.specs.Crews.{WorkView}
-use Rattle.crawl_workers.specs.Refreshes.{entries_of}
-use Rattle.crawl_workers.specs.World.{world_of}
+use Rattle.page_worker.specs.Refreshes.{entries_of}
+use Rattle.page_worker.specs.World.{world_of}
 use Rattle.crawl_workers.proofs.Doing.{did_another}
 use Rattle.crawl_workers.proofs.crew.Crew.do_next.Goals as goal
 

@@ -2,7 +2,7 @@
 -- Used by `Crew::draw_all`.
 use Rattle.gate_lock.specs.Desks.{KeepsOut, receipt_of}
 use Rattle.crawl_workers.specs.Crews.{HasWorked, StaysAt}
-use Rattle.crawl_workers.specs.World.{world_of}
+use Rattle.page_worker.specs.World.{world_of}
 use Rattle.crawl_workers.proofs.crew.Crew.draw_all.Given as goal
 
 abbrev pub invariant-draws : goal.invariant-draws

@@ -4,7 +4,7 @@ use Rattle.std.proofs.Common.{◌≡◌, ◌<◌, ℕ, true}
 use Rattle.gate_lock.specs.Desks.{KeepsOut, receipt_of}
 use Rattle.job_line.specs.Covers.{ended_at}
 use Rattle.crawl_workers.specs.Crews.{HasWorked, StaysAt}
-use Rattle.crawl_workers.specs.World.{world_of}
+use Rattle.page_worker.specs.World.{world_of}
 use Rattle.crawl_workers.proofs.crew.Crew.draw_rest.Given as goal
 
 abbrev pub invariant-loop-site : goal.invariant-loop-site

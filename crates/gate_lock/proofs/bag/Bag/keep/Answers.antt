@@ -1,6 +1,6 @@
 -- The permit put in and the other permits are of the desk.
 use Rattle.std.proofs.Common.{rules, sym, ap, ◌∙◌, length, arith}
-use Rattle.gate_lock.specs.Bags.{kept_in}
+use Rattle.numbered_store.specs.Stores.{kept_in}
 use Rattle.gate_lock.specs.Desks.{Pass}
 use Rattle.gate_lock.proofs.Holding.{more, ok_then}
 use Rattle.gate_lock.proofs.bag.Bag.keep.Goals as goal

@@ -1,7 +1,8 @@
 -- The permit that was taken out has this number, token and URL; it becomes a fetch or is spent.
 use Rattle.std.proofs.Common.{◌≡◌, ◌==◌, ◌&&◌, true, ◌∷◌, sym, ap, ◌∙◌, length, subst, IfSome, Ok, Err, IsPermutation, arith}
 use Rattle.std.specs.Str.{bytes_eq}
-use Rattle.gate_lock.specs.Bags.{kept_in, pass_of}
+use Rattle.numbered_store.specs.Stores.{kept_in}
+use Rattle.gate_lock.specs.Bags.{pass_of}
 use Rattle.gate_lock.specs.Desks.{Pass, Run}
 use Rattle.gate_lock.specs.Steps.{DeskStarts, Somewhere}
 use Rattle.gate_lock.proofs.Holding.{arm_of, less, more, named, there}

@@ -1,6 +1,6 @@
 -- The permit taken out and the permits left are of the desk.
 use Rattle.std.proofs.Common.{◌∙◌, ap, length, arith}
-use Rattle.gate_lock.specs.Bags.{kept_in}
+use Rattle.numbered_store.specs.Stores.{kept_in}
 use Rattle.gate_lock.specs.Desks.{Pass}
 use Rattle.gate_lock.proofs.Holding.{less}
 use Rattle.gate_lock.proofs.bag.Bag.take.Goals as goal

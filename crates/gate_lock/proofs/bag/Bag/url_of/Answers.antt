@@ -5,7 +5,7 @@ use Rattle.std.specs.Str.{bytes_eq}
 use Rattle.std.proofs.lemmas.Bool.{and_parts}
 use Rattle.std.proofs.lemmas.Slice.Eq.{bytes_eq-Decides}
 use Rattle.gate_lock.specs.Desks.{Pass}
-use Rattle.gate_lock.proofs.Keeping.{kept_passes}
+use Rattle.numbered_store.proofs.CallerLemmas.{kept_passes}
 use Rattle.gate_lock.proofs.bag.Bag.url_of.Goals as goal
 
 pub returns-in-Some-at : goal.returns-in-Some-at

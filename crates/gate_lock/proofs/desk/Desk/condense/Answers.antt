@@ -1,8 +1,8 @@
 -- The number of marks stays.
 use Rattle.std.proofs.Common.{◌≤◌, map, take, refl, ap, sym, ◌∙◌, arith, rules}
-use Rattle.gate_lock.specs.Marks.{AreSealed, SealedView, sealed_with}
+use Rattle.gate_marks.specs.Marks.{AreSealed, SealedView, sealed_with}
 use Rattle.gate_lock.specs.Desks.{DeskView}
-use Rattle.gate_lock.proofs.Condensing.{keeps_count, taken_in}
+use Rattle.gate_marks.proofs.CallerLemmas.{keeps_count, taken_in}
 use Rattle.gate_lock.proofs.desk.Desk.condense.Goals as goal
 
 pub invariant_of-self : goal.invariant_of-self

@@ -1,10 +1,17 @@
 -- No literal is kept, and none has marks.
-use Rattle.std.proofs.Common.{refl, subst, sym, arith}
-use Rattle.std.proofs.lemmas.List.Elements.{All-replicate}
+use Rattle.std.proofs.Common.{◌≡◌, subst, sym, arith}
+use Rattle.std.proofs.lemmas.List.Elements.{All-weaker}
+use Rattle.path_pattern.specs.declared.kept.Marked.{Marked}
+use Rattle.path_pattern.specs.declared.kept.Stand.{Stand}
 use Rattle.path_pattern.specs.Kept.{IsKept, IsMarked}
 use Rattle.path_pattern.specs.Sorted.{ArePlacesOf}
 use Rattle.path_pattern.proofs.path.Path.with.Goals as goal
 
 pub invariant_of-result : goal.invariant_of-result
 invariant_of-result c =
-    (subst (ArePlacesOf c.args.text.now) (sym c.as_slice.ensures) c.requires, All-replicate (IsKept c.args.text.now c.as_slice.result.now) 8192 _ (λ some. absurd (omega (arith, some))), All-replicate (IsMarked c.as_slice.result.now) 128 _ (λ none. absurd (omega (arith, none))))
+    let places = c.as_slice-places.result.now in (
+      subst (ArePlacesOf c.args.text.now) (sym c.as_slice-places.ensures.value) c.requires,
+      c.spell_fronts.ensures,
+      All-weaker (λ (stand : Stand). stand.end ≡ 0) (IsKept c.args.text.now places) (λ (stand : Stand) none some. absurd (omega (arith, none, some))) _ c.forget_stands.ensures,
+      All-weaker (λ (marked : Marked). marked.left ≡ 8) (IsMarked places) (λ (marked : Marked) eight none. absurd (omega (arith, eight, none))) _ c.forget_marks.ensures,
+    )

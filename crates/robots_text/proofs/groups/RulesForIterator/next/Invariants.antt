@@ -1,5 +1,5 @@
 use Rattle.std.proofs.Common.{◌≡◌, length}
-use Rattle.robots_text.specs.Left.{records_left}
+use Rattle.robots_text.specs.Grouped.{grouped_left}
 use Rattle.robots_text.specs.Walk.{rules_left}
 use Rattle.robots_text.proofs.groups.RulesForIterator.next.Given as goal
 
@@ -8,4 +8,4 @@ abbrev pub invariant-loop-record : goal.invariant-loop-record
 invariant-loop-record l = rules_left l.self ≡ rules_left l.initial.self
 
 abbrev pub decreases-loop-record : goal.decreases-loop-record
-decreases-loop-record l = length (records_left l.self.records)
+decreases-loop-record l = length (grouped_left l.self.records)

@@ -1,0 +1,19 @@
+-- Definitions for the contracts of command lines, replies and sessions.
+pub mod Limits
+pub mod Verbs
+pub mod WhyText
+pub mod Arguments
+pub mod Arrival
+pub mod CallOf
+pub mod LineWords
+pub mod RefusalText
+pub mod FaultText
+pub mod ReplyText
+pub mod Input
+pub mod SealText
+pub mod Answers
+pub mod Session
+pub mod Steps
+pub mod Replay
+pub mod HopText
+pub mod JobWords

@@ -1,0 +1,4 @@
+pub mod CallerLemmas
+pub mod Condensing
+pub mod Merging
+pub mod Ranging

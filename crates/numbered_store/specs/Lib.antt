@@ -1,0 +1,2 @@
+-- Definitions for values that are found by their numbers.
+pub mod Stores

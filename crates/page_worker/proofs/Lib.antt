@@ -1,0 +1,7 @@
+-- The lemmas of this crate's proofs.
+mod Chains
+mod Fetching
+mod Hops
+mod InForce
+mod OwnEntries
+pub mod Starting

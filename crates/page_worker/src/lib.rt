@@ -1,0 +1,17 @@
+//! One worker: a job's pages fetched hop by hop, and refreshes of robots answers.
+//! RFC 9309, sections 2.2 to 2.4, in the profile of docs/POLICY.md.
+#![tactic(auto)]
+
+mod clock;
+mod event;
+pub mod laws;
+mod refreshing;
+mod stale;
+mod way_on;
+mod worker;
+mod working;
+
+pub use clock::{Clock, SystemClock};
+pub use event::{ClosedBy, Event, EventObserver};
+pub use refreshing::refresh;
+pub use working::{work, work_observed};
