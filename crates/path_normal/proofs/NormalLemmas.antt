@@ -2,20 +2,20 @@
 -- Used by `normal_path` and `normal_pattern`.
 use Rattle.std.proofs.Common.{◌≡◌, ℕ, ◌+◌, ◌-◌, ◌*◌, ◌/◌, ◌%◌, ◌<◌, Bool, true, false, not, ◌&&◌, ◌||◌, ◌==◌, List, [], ◌∷◌, ◌++◌, length, get_or, take, drop, map, All, zero, suc, refl, sym, ap, ◌∙◌, ◌≤◌, append-nil, arith, length-append, eqb-true, None, Some}
 use Rattle.std.specs.Prelude.{codes, if◌then◌else◌, nat_lt}
-use Rattle.std.specs.List.{flat_map, position, position_or_len}
+use Rattle.std.specs.List.{flat_map, list_any, position, position_or_len}
 use Rattle.std.specs.Char.{digit_value, is_digit}
 use Rattle.std.specs.Fmt.{digit_glyph}
 use Rattle.std.proofs.lemmas.Bool.{cond-true, cond-false, and_parts, agree_below_at, true≢false}
 use Rattle.std.proofs.lemmas.Bool.Decides.{nat_tests}
 use Rattle.std.proofs.lemmas.List.Elements.{All-nil, All-cons, All-head, All-tail, All-append, All-get_or, All-take}
-use Rattle.std.proofs.lemmas.List.{length-take}
+use Rattle.std.proofs.lemmas.List.{length-take, take_all, take_more}
 use Rattle.std.proofs.lemmas.List.Sums.{fails_before_first, prefix_len-le-length}
 use Rattle.std.proofs.Math.Seq.{take-append_seam}
 use Rattle.percent_encoding.specs.Percent.{percent_encode_byte}
 use Rattle.path_normal.specs.declared.normal.Octet.{Octet}
 use Rattle.path_normal.specs.declared.normal.Role.{Role}
 use Rattle.path_normal.specs.declared.normal.Role.TheVariants.{Pattern}
-use Rattle.path_normal.specs.Normal.{octet_escaped, is_anchored, is_changed, is_escape, is_kept, is_reserved, is_sign, is_unreserved, normal, normal_pattern, plain, spelled, unanchored, units}
+use Rattle.path_normal.specs.Normal.{octet_escaped, is_anchored, is_changed, is_escape, is_kept, is_kept_pattern, is_reserved, is_sign, is_unreserved, normal, normal_pattern, plain, spelled, unanchored, units}
 use Rattle.path_normal.specs.Octets.{dollar_sign}
 use Rattle.url.specs.Ascii.{percent_sign}
 
@@ -268,3 +268,39 @@ pattern_small true (octet ∷ pattern) is =
     let front = take (length whole - 1) whole in
     omega (arith, ap length (anchored_form whole is), length-append (normal Pattern front) (codes "$"), normal_small Pattern front, length-take (length whole - 1) whole)
 pattern_small false pattern is = omega (arith, ap length (open_form pattern is), normal_small Pattern pattern)
+
+-- ---- a pattern that keeps its octets is in normal form
+
+none_any : (role : Role) (text : List ℕ) → list_any (is_changed role) text ≡ false → normal role text ≡ text
+none_any role [] none = refl
+none_any role (octet ∷ text) none =
+    let parts = both_not (is_changed role octet) (list_any (is_changed role) text) none in
+    kept_first role octet text parts.0 ∙ ap (λ rest. octet ∷ rest) (none_any role text parts.1)
+  where
+    both_not : (one other : Bool) → (one || other) ≡ false → (one ≡ false) × (other ≡ false)
+    both_not true other is = absurd (true≢false is)
+    both_not false other is = (refl, is)
+
+with_last : (pattern : List ℕ) → is_anchored pattern ≡ true → take (length pattern - 1) pattern ++ codes "$" ≡ pattern
+with_last [] is = cc
+with_last (octet ∷ text) is =
+    let pattern = octet ∷ text in
+    let before = length pattern - 1 in
+    let last = eqb-true (get_or pattern before 0) dollar_sign is in
+    sym (ap (λ one. take before pattern ++ one ∷ []) last) ∙ sym (take_more pattern before 0 (omega arith)) ∙ take_all (before + 1) pattern (omega arith)
+
+kept_by : (tested : Bool) (pattern : List ℕ) → is_anchored pattern ≡ tested → list_any (is_changed Pattern) (unanchored pattern) ≡ false → normal_pattern pattern ≡ pattern
+kept_by true pattern is none =
+    let front = take (length pattern - 1) pattern in
+    let same = none_any Pattern front (ap (list_any (is_changed Pattern)) (sym (cond-true (is_anchored pattern) front pattern is)) ∙ none) in
+    anchored_form pattern is ∙ ap (λ form. form ++ codes "$") same ∙ with_last pattern is
+kept_by false pattern is none =
+    let same = none_any Pattern pattern (ap (list_any (is_changed Pattern)) (sym (cond-false (is_anchored pattern) (take (length pattern - 1) pattern) pattern is)) ∙ none) in
+    open_form pattern is ∙ same
+
+pub kept_pattern : (pattern : List ℕ) → is_kept_pattern pattern ≡ true → normal_pattern pattern ≡ pattern
+kept_pattern pattern kept = kept_by (is_anchored pattern) pattern refl (none_of (list_any (is_changed Pattern) (unanchored pattern)) kept)
+  where
+    none_of : (any : Bool) → not any ≡ true → any ≡ false
+    none_of true is = absurd (true≢false (sym is))
+    none_of false is = refl

@@ -1,7 +1,7 @@
 -- The normal form of a path or a pattern, unit by unit.
 -- RFC 9309, section 2.2.2; RFC 3986, section 2.
 use Rattle.std.specs.Prelude.{ℕ, ◌+◌, ◌-◌, ◌*◌, Bool, true, false, not, ◌&&◌, ◌||◌, ◌==◌, List, [], ◌∷◌, ◌++◌, length, take, slice_index, codes, if◌then◌else◌}
-use Rattle.std.specs.List.{flat_map}
+use Rattle.std.specs.List.{flat_map, list_any}
 use Rattle.std.specs.Char.{digit_value, is_digit, is_ascii_alphanumeric}
 use Rattle.percent_encoding.specs.Percent.{percent_encode_byte}
 use Rattle.path_normal.specs.Octets.{is_one_of, dollar_sign, star}
@@ -82,6 +82,10 @@ is_anchored pattern = slice_index pattern (length pattern - 1) == dollar_sign
 -- the pattern without a last `$`
 abbrev pub unanchored : List ℕ → List ℕ
 unanchored pattern = if is_anchored pattern then take (length pattern - 1) pattern else pattern
+
+-- each octet of the pattern but its end anchor is kept as it is written
+abbrev pub is_kept_pattern : List ℕ → Bool
+is_kept_pattern pattern = not (list_any (is_changed Pattern) (unanchored pattern))
 
 -- the normal form of a pattern, which keeps a last `$`
 abbrev pub normal_pattern : List ℕ → List ℕ

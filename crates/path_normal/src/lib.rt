@@ -12,6 +12,8 @@ mod schemes;
 
 pub use authority::{Authority, root_text};
 pub use fault::{AuthorityFault, Unread, UrlFault};
-pub use normal::{is_unreserved, normal_path, normal_pattern, push_normal_pattern, split_anchor};
+pub use normal::{
+    is_kept_pattern, is_unreserved, normal_path, normal_pattern, push_normal_pattern, split_anchor,
+};
 pub use page_url::{MAX_AUTHORITY, MAX_URL, PageUrl};
 pub use schemes::Schemes;

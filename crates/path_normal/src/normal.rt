@@ -1,12 +1,34 @@
 //! Normal forms of paths and patterns, in which equal octets are written alike.
 //! RFC 9309, section 2.2.2; RFC 3986, section 2.
 ghost use Rattle.std.specs.Prelude.{◌≡◌, ◌++◌, ◌∷◌, ◌<◌, ◌≤◌, vec_len, [], drop, take, true, length, IfOk, IfSome, IsTrue, MatchOption};
-ghost use Rattle.std.specs.List.{position};
+ghost use Rattle.std.specs.List.{list_any, position};
 ghost use Rattle.std.specs.Char.{digit_value, is_digit};
-ghost use Rattle.path_normal.specs.Normal.{is_anchored, is_changed, is_gen_delim, is_kept, is_reserved, is_sign, is_sub_delim, is_unreserved, normal, normal_path, normal_pattern, spelled, unanchored, units};
+ghost use Rattle.path_normal.specs.Normal.{is_anchored, is_changed, is_gen_delim, is_kept, is_kept_pattern, is_reserved, is_sign, is_sub_delim, is_unreserved, normal, normal_path, normal_pattern, spelled, unanchored, units};
 
 use percent_encoding::percent_encode_byte;
 use std::alloc::{AllocError, Global};
+
+// Each octet that a path keeps stands at its own place, and `%` at every other place.
+static KEPT_IN_PATHS: [u8; 256] = *b"\
+    %%%%%%%%%%%%%%%%%%%%%%%%%%%%%%%%\
+    %!%#%%&'()%+,-./0123456789:;%=%?\
+    @ABCDEFGHIJKLMNOPQRSTUVWXYZ[%]%_\
+    %abcdefghijklmnopqrstuvwxyz%%%~%\
+    %%%%%%%%%%%%%%%%%%%%%%%%%%%%%%%%\
+    %%%%%%%%%%%%%%%%%%%%%%%%%%%%%%%%\
+    %%%%%%%%%%%%%%%%%%%%%%%%%%%%%%%%\
+    %%%%%%%%%%%%%%%%%%%%%%%%%%%%%%%%";
+
+// The same of a pattern.
+static KEPT_IN_PATTERNS: [u8; 256] = *b"\
+    %%%%%%%%%%%%%%%%%%%%%%%%%%%%%%%%\
+    %!%#%%&'()*+,-./0123456789:;%=%?\
+    @ABCDEFGHIJKLMNOPQRSTUVWXYZ[%]%_\
+    %abcdefghijklmnopqrstuvwxyz%%%~%\
+    %%%%%%%%%%%%%%%%%%%%%%%%%%%%%%%%\
+    %%%%%%%%%%%%%%%%%%%%%%%%%%%%%%%%\
+    %%%%%%%%%%%%%%%%%%%%%%%%%%%%%%%%\
+    %%%%%%%%%%%%%%%%%%%%%%%%%%%%%%%%";
 
 /// What a text is compared as.
 #[derive(Clone, Copy)]
@@ -55,6 +77,21 @@ pub fn push_normal_pattern(form: &mut Vec<u8>, pattern: &[u8]) -> Result<(), All
         form.push(b'$')?;
     }
     Ok(())
+}
+
+/// Whether each octet of the pattern but its end anchor is kept as it is written. Such a pattern is in
+/// normal form.
+pub fn is_kept_pattern(pattern: &[u8]) -> bool
+    ensures value { result ≡ is_kept_pattern pattern.now }
+    ensures normal { IsTrue result → normal_pattern pattern.now ≡ pattern.now }
+{
+    !has_changed(split_anchor(pattern).0)
+}
+
+fn has_changed(front: &[u8]) -> bool
+    ensures { result ≡ list_any (is_changed Role.Pattern) front.now }
+{
+    front.iter().any(|octet| is_changed_in_pattern(*octet))
 }
 
 /// The pattern without a last `$`, and whether it had one.
@@ -114,13 +151,22 @@ fn changed_place(role: Role, text: &[u8]) -> Option<usize>
 fn is_changed(role: Role, octet: u8) -> bool
     ensures { result ≡ is_changed role octet }
 {
-    !is_kept(
-        role,
-        Octet {
-            escaped: false,
-            value: octet,
-        },
-    )
+    match role {
+        Role::Path => is_changed_in_path(octet),
+        Role::Pattern => is_changed_in_pattern(octet),
+    }
+}
+
+fn is_changed_in_path(octet: u8) -> bool
+    ensures { result ≡ is_changed Role.Path octet }
+{
+    KEPT_IN_PATHS[octet as usize] == b'%'
+}
+
+fn is_changed_in_pattern(octet: u8) -> bool
+    ensures { result ≡ is_changed Role.Pattern octet }
+{
+    KEPT_IN_PATTERNS[octet as usize] == b'%'
 }
 
 fn next_unit(text: &[u8]) -> Option<(Octet, &[u8])>

@@ -1,9 +1,9 @@
 -- Lemmas on the definitions of `specs/`.
 -- Used by the answers beside them.
 pub mod TokenLemmas
-pub mod Places
 pub mod Ends
 pub mod Cutting
+pub mod Fronts
 pub mod LineLaws
 pub mod KeptLaws
 pub mod LineEntries

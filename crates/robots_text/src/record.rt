@@ -9,8 +9,8 @@
 ghost use Rattle.std.specs.Prelude.{◌≡◌, ◌<◌, length, IfSome};
 ghost use Rattle.std.specs.List.{position, before_first};
 ghost use Rattle.robots_text.specs.Records.{agent_seen, ends_token, is_blank};
-ghost use Rattle.robots_text.specs.Records.{is_colon, is_everybody, is_number_sign};
-ghost use Rattle.robots_text.specs.Records.{kind_seen, named, record_in, record_named, record_of};
+ghost use Rattle.robots_text.specs.Records.{is_colon, is_everybody};
+ghost use Rattle.robots_text.specs.Records.{kind_seen, named, record_in, record_named};
 ghost use Rattle.robots_text.specs.Records.{trimmed, without_leading, without_trailing};
 
 use crate::token::is_token_octet;
@@ -52,23 +52,8 @@ pub struct RecordLine<'a> {
     pub kind: RecordKind<'a>,
 }
 
-/// The record of a line without CR and LF.
-pub(crate) fn record_of(line: &[u8]) -> RecordKind<'_>
-    ensures { kind_seen result ≡ record_of line.now }
-{
-    record_in(without_comment(line))
-}
-
-fn without_comment(line: &[u8]) -> &[u8]
-    ensures { result.now ≡ before_first is_number_sign line.now }
-{
-    match hash_place(line) {
-        Some(place) => line.split_at(place).0,
-        None => line,
-    }
-}
-
-fn record_in(text: &[u8]) -> RecordKind<'_>
+/// The record of a line without CR and LF, up to its first `#`.
+pub(crate) fn record_in(text: &[u8]) -> RecordKind<'_>
     ensures { kind_seen result ≡ record_in text.now }
 {
     match colon_place(text) {
@@ -133,13 +118,6 @@ fn token_end(value: &[u8]) -> Option<usize>
     ensures within { IfSome result (λ end. end < length value.now) }
 {
     value.iter().position(|octet| !is_token_octet(*octet))
-}
-
-fn hash_place(line: &[u8]) -> Option<usize>
-    ensures place { result ≡ position is_number_sign line.now }
-    ensures within { IfSome result (λ place. place < length line.now) }
-{
-    line.iter().position(|octet| *octet == b'#')
 }
 
 fn colon_place(text: &[u8]) -> Option<usize>

@@ -3,7 +3,7 @@
 ghost use Rattle.std.specs.Prelude.{◌≡◌, ◌≤◌, ◌<◌, ◌+◌, ◌^◌, false, length, map};
 
 use crate::line::cut_line;
-use crate::record::{RecordLine, record_of};
+use crate::record::{RecordLine, record_in};
 
 /// The remaining records, one for each line. Takes no memory.
 #[derive(Drop)]
@@ -46,7 +46,7 @@ impl<'a> Iterator for Records<'a> {
         if self.rest.is_empty() {
             return None;
         }
-        let (first, rest) = cut_line(self.rest);
+        let (front, rest) = cut_line(self.rest);
         let line = self.line;
         *self = Records {
             rest,
@@ -54,7 +54,7 @@ impl<'a> Iterator for Records<'a> {
         };
         Some(RecordLine {
             line,
-            kind: record_of(first),
+            kind: record_in(front),
         })
     }
 }

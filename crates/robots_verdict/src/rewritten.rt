@@ -7,7 +7,7 @@ ghost use Rattle.robots_text.specs.Records.{kind_seen};
 ghost use Rattle.robots_verdict.specs.Rewritten.{form_at, HasForm, HasNoForm, rewritten_at, rewritten_in};
 
 use crate::rows::part;
-use path_normal::push_normal_pattern;
+use path_normal::{is_kept_pattern, push_normal_pattern};
 use robots_text::{GroupedRecord, RecordKind, RobotsText};
 use std::alloc::{AllocError, Global};
 use std::marker::Model;
@@ -160,7 +160,8 @@ fn read(alloc: Global, text: &RobotsText) -> Result<Rewritten, AllocError>
     Ok(rewritten)
 }
 
-// Adds a record's line if its pattern is not in normal form. Reuses one buffer.
+// Adds a record's line if its pattern is not in normal form. Most patterns keep each octet and are not
+// copied; the others share one buffer.
 fn take(
     rewritten: &mut Rewritten,
     form: &mut Vec<u8>,
@@ -176,6 +177,9 @@ fn take(
     let RecordKind::Rule(_, pattern) = item.kind else {
         return Ok(());
     };
+    if is_kept_pattern(pattern) {
+        return Ok(());
+    }
     form.clear();
     push_normal_pattern(form, pattern)?;
     if form.as_slice() == pattern {
