@@ -1,8 +1,7 @@
 -- The workers of a shift: what each draws, does and hands over.
 -- The contracts of the functions behind `run_shift`.
-use Rattle.std.specs.Prelude.{◌≡◌, ℕ, ◌++◌, ◌==◌, nat_lt, true, All, List, [], ◌∷◌, length, map, Option, None, Some, Ok, Result, IfOk}
+use Rattle.std.specs.Prelude.{◌≡◌, ℕ, ◌++◌, ◌==◌, nat_lt, true, All, List, [], ◌∷◌, length, map, Result, IfOk}
 use Rattle.std.specs.List.{list_any}
-use Rattle.std.specs.Option.{IsSomeAnd}
 use Rattle.atomic_table.specs.Seated.{TableId}
 use Rattle.gate_lock.specs.Desks.{DeskView}
 use Rattle.authority_cache.specs.Calls.{one_if}
@@ -37,15 +36,6 @@ pub record WorkView : Type 0 where
   pub drawn : List ℕ
   pub done : List Done
 
--- a worker: its work, and its end if it has ended
-pub record MemberView : Type 0 where
-  pub work : WorkView
-  pub end : Option (Result Receipt ShiftFault)
-
--- a new worker at a seat
-abbrev pub newcomer : SeatView → MemberView
-newcomer seat = record { work = record { seat = seat; drawn = []; done = [] }; end = None }
-
 -- a new worker's work at a seat of the line
 pub record IsNewWork (line : TableId) (counts : List ℕ) (work : WorkView) : Type 0 where
   pub new_seat : IsNew line counts work.seat
@@ -76,10 +66,10 @@ pub record HasEnded (world : World) (jobs : List Job) (order : List ℕ) (work :
   pub has_worked : HasWorked world jobs order work r
   pub all_ended : has_ended work.seat ≡ true
 
--- a worker has ended at its seat; if it has receipts, it did the jobs drawn and found the end of each site
-pub record Ends (world : World) (jobs : List Job) (order : List ℕ) (old new : MemberView) : Type 0 where
-  pub stays : StaysAt old.work.seat new.work.seat
-  pub ends : IsSomeAnd new.end (λ end. IfOk end (HasEnded world jobs order new.work))
+-- a worker that did not fail did the jobs drawn at its seat, and found the end of each site
+abbrev pub Ends : World → List Job → List ℕ → SeatView → Result (WorkView × Receipt) ShiftFault → Type 0
+Ends world jobs order seat end =
+    IfOk end (λ both. StaysAt seat both.0.seat × HasEnded world jobs order both.0 both.1)
 
 -- what workers hand over: their seats, the jobs drawn and done, and their desks' receipts
 pub record HandoverView : Type 0 where
@@ -92,21 +82,12 @@ pub record HandoverView : Type 0 where
 abbrev pub nothing_handed : HandoverView
 nothing_handed = record { seats = []; drawn = []; done = []; receipts = [] }
 
--- one more worker hands over, with its receipts
-pub record TakesIn (old : HandoverView) (worker : MemberView) (new : HandoverView) : Type 0 where
-  pub receipt : Receipt
-  pub end_is : worker.end ≡ Some (Ok receipt)
-  pub seats_are : new.seats ≡ old.seats ++ worker.work.seat ∷ []
-  pub drawn_are : new.drawn ≡ old.drawn ++ worker.work.drawn ∷ []
-  pub done_are : new.done ≡ old.done ++ worker.work.done ∷ []
-  pub receipts_are : new.receipts ≡ old.receipts ++ receipt ∷ []
-
--- these workers all have receipts and hand over
-pub record HandsOver (workers : List MemberView) (h : HandoverView) : Type 0 where
-  pub seats_are : h.seats ≡ map (λ worker. worker.work.seat) workers
-  pub drawn_are : h.drawn ≡ map (λ worker. worker.work.drawn) workers
-  pub done_are : h.done ≡ map (λ worker. worker.work.done) workers
-  pub receipts_are : map (λ r. Some (Ok r)) h.receipts ≡ map (λ worker. worker.end) workers
+-- these workers hand over, with these receipts
+pub record HandsOver (works : List WorkView) (receipts : List Receipt) (h : HandoverView) : Type 0 where
+  pub seats_are : h.seats ≡ map (λ work. work.seat) works
+  pub drawn_are : h.drawn ≡ map (λ work. work.drawn) works
+  pub done_are : h.done ≡ map (λ work. work.done) works
+  pub receipts_are : h.receipts ≡ receipts
 
 -- each worker did the jobs that it drew
 abbrev pub EachHasDone : World → List Job → List (List ℕ) → List (List Done) → List Receipt → Type 0

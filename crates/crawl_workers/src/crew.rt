@@ -4,7 +4,7 @@ ghost use Rattle.std.specs.Prelude.{◌≡◌, ◌<◌, ◌++◌, ◌∷◌, [],
 ghost use Rattle.std.specs.List.{slice_get};
 ghost use Rattle.gate_lock.specs.Desks.{KeepsOut, receipt_of};
 ghost use Rattle.gate_marks.specs.Marks.{nothing_sealed};
-ghost use Rattle.job_line.specs.Covers.{ended_at};
+ghost use Rattle.job_line.specs.Covers.{IsNew, ended_at};
 ghost use Rattle.crawl_workers.specs.Crews.{DoesJob, Ends, HasDone, HasEnded, HasWorked, IsAtLine, IsNewWork, StaysAt};
 ghost use Rattle.crawl_workers.specs.Orders.{IsOrder};
 ghost use Rattle.page_worker.specs.World.{world_of};
@@ -94,60 +94,31 @@ impl Model for Work {
     } };
 }
 
-/// A worker: its work, and once it has ended, its desk's receipts or why there are none.
-#[derive(Drop)]
-pub(crate) struct Member<G: Gate> {
-    pub(crate) work: Work,
-    pub(crate) end: Option<Result<Receipts<G>, ShiftFault>>,
-}
-
-impl<G: Gate> Model for Member<G> {
-    ghost use Rattle.crawl_workers.specs.Crews.{MemberView};
-
-    ghost Value = { MemberView };
-
-    ghost view = { λ worker. record {
-      work = worker.work;
-      end = worker.end;
-    } };
-}
-
 impl<F: Fetcher, C: Clock, W: Watcher, P: Pace> Crew<'_, F, C, W, P> {
-    pub(crate) fn employ<G: Gate, R: Wait>(
+    /// Opens a desk for the worker of this seat, does jobs until none is left, and closes the desk whatever
+    /// happened.
+    pub(crate) fn man_desk<G: Gate, R: Wait>(
         &self,
         rt: &R,
         alloc: Global,
         gate: &GateLock<G>,
-        worker: &mut Member<G>,
-    )
-        requires new { IsNewWork self.now.line.now self.now.counts.now worker.old.work }
+        seat: JobSeat,
+    ) -> Result<(Work, Receipts<G>), ShiftFault>
+        requires { IsNew self.now.line.now self.now.counts.now seat }
         ensures { Ends (world_of (F.gives self.now.fetcher.now) (F.follows self.now.fetcher.now)
             (C.reads self.now.clock.now))
-            self.now.jobs.now self.now.order.now worker.old worker.new }
+            self.now.jobs.now self.now.order.now seat result }
     {
-        let end = self.man_desk(rt, alloc, gate, &mut worker.work);
-        worker.end = Some(end);
-    }
-
-    // Opens a desk, does jobs until none is left, and closes the desk whatever happened.
-    fn man_desk<G: Gate, R: Wait>(
-        &self,
-        rt: &R,
-        alloc: Global,
-        gate: &GateLock<G>,
-        work: &mut Work,
-    ) -> Result<Receipts<G>, ShiftFault>
-        requires new { IsNewWork self.now.line.now self.now.counts.now work.old }
-        ensures seat { StaysAt work.old.seat work.new.seat }
-        ensures ok { IfOk result (λ r. HasEnded
-            (world_of (F.gives self.now.fetcher.now) (F.follows self.now.fetcher.now) (C.reads self.now.clock.now))
-            self.now.jobs.now self.now.order.now work.new r) }
-    {
+        let mut work = Work {
+            seat,
+            drawn: Vec::new(alloc),
+            done: Vec::new(alloc),
+        };
         let mut desk = gate.desk(rt, alloc)?;
-        let ended = self.draw_all(rt, alloc, &mut desk, work);
+        let ended = self.draw_all(rt, alloc, &mut desk, &mut work);
         let receipts = desk.close();
         ended?;
-        Ok(receipts)
+        Ok((work, receipts))
     }
 
     // Enters sites while there is a job to enter for, drawing and doing one job at each, and then does the

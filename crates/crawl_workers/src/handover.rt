@@ -1,12 +1,11 @@
 //! What a shift's workers hand over when they end.
 //! Called by `run_shift`, after the last job.
-ghost use Rattle.std.specs.Prelude.{◌≡◌, ◌≤◌, ◌<◌, All, IfOk, OnOk, length, vec_len};
-ghost use Rattle.std.specs.Option.{IsSome};
+ghost use Rattle.std.specs.Prelude.{◌≡◌, ◌≤◌, IfOk, vec_len};
 ghost use Rattle.job_line.specs.Limits.{max_workers};
-ghost use Rattle.crawl_workers.specs.Crews.{HandsOver, TakesIn, nothing_handed};
+ghost use Rattle.crawl_workers.specs.Crews.{HandsOver, nothing_handed};
 
-use crate::crew::{Done, Member, Work};
-use crate::report::ShiftFault;
+use crate::crew::{Done, Work};
+use desk_pool::Returned;
 use gate_lock::{Gate, Receipts};
 use job_line::{JobSeat, MAX_WORKERS};
 use std::alloc::{AllocError, Global};
@@ -23,7 +22,7 @@ pub(crate) struct Handover<G: Gate> {
 }
 
 impl<G: Gate> Model for Handover<G> {
-    ghost use Rattle.std.specs.Prelude.{◌≡◌, ◌≤◌, map, vec_capacity, vec_len};
+    ghost use Rattle.std.specs.Prelude.{◌≤◌, map, vec_capacity};
     ghost use Rattle.job_line.specs.Limits.{max_workers};
     ghost use Rattle.crawl_workers.specs.Crews.{HandoverView};
 
@@ -37,9 +36,7 @@ impl<G: Gate> Model for Handover<G> {
     } };
 
     ghost invariant = { λ h. (max_workers ≤ vec_capacity h.seats)
-        × (max_workers ≤ vec_capacity h.drawn) × (max_workers ≤ vec_capacity h.done)
-        × (max_workers ≤ vec_capacity h.receipts) × (vec_len h.seats ≡ vec_len h.drawn)
-        × (vec_len h.done ≡ vec_len h.drawn) × (vec_len h.receipts ≡ vec_len h.drawn) };
+        × (max_workers ≤ vec_capacity h.drawn) × (max_workers ≤ vec_capacity h.done) };
 }
 
 impl<G: Gate> Handover<G> {
@@ -51,38 +48,33 @@ impl<G: Gate> Handover<G> {
             seats: Vec::with_capacity(alloc, MAX_WORKERS as usize)?,
             drawn: Vec::with_capacity(alloc, MAX_WORKERS as usize)?,
             done: Vec::with_capacity(alloc, MAX_WORKERS as usize)?,
-            receipts: Vec::with_capacity(alloc, MAX_WORKERS as usize)?,
+            receipts: Vec::new(alloc),
         })
     }
 
-    /// Takes what these workers hand over. The first without receipts gives the fault.
-    pub(crate) fn take_all(&mut self, workers: Vec<Member<G>>) -> Result<(), ShiftFault>
-        requires new { self.old ≡ nothing_handed }
-        requires few { vec_len workers ≤ max_workers }
-        requires ended { All (λ worker. IsSome worker.end) workers.items }
-        ensures { OnOk result (HandsOver workers.items self.new) }
+    /// What these workers hand over.
+    pub(crate) fn filled(self, returned: Returned<Work, Receipts<G>>) -> Handover<G>
+        requires new { self ≡ nothing_handed }
+        requires few { vec_len returned.works ≤ max_workers }
+        ensures { HandsOver returned.works.items returned.receipts.items result }
     {
-        for worker in workers {
-            self.take_in(worker)?;
+        let Handover {
+            mut seats,
+            mut drawn,
+            mut done,
+            receipts: _,
+        } = self;
+        let Returned { works, receipts } = returned;
+        for work in works {
+            seats.push_reserved(work.seat);
+            drawn.push_reserved(work.drawn);
+            done.push_reserved(work.done);
         }
-        Ok(())
-    }
-
-    fn take_in(&mut self, worker: Member<G>) -> Result<(), ShiftFault>
-        requires room { length self.old.drawn < max_workers }
-        requires ended { IsSome worker.end }
-        ensures { OnOk result (TakesIn self.old worker self.new) }
-    {
-        let Member { work, end } = worker;
-        let Some(end) = end else {
-            unreachable!();
-        };
-        let receipts = end?;
-        let Work { seat, drawn, done } = work;
-        self.seats.push_reserved(seat);
-        self.drawn.push_reserved(drawn);
-        self.done.push_reserved(done);
-        self.receipts.push_reserved(receipts);
-        Ok(())
+        Handover {
+            seats,
+            drawn,
+            done,
+            receipts,
+        }
     }
 }

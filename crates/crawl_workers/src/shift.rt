@@ -1,13 +1,14 @@
 //! A shift: several workers, each on its own thread, do the jobs of a list over one gate.
 //! RFC 9309, sections 2.2 to 2.4, in the profile of docs/POLICY.md.
-ghost use Rattle.std.specs.Prelude.{◌≡◌, ◌≤◌, ◌<◌, ℕ, All, IfOk, OnOk, length, map, slice_index_or, vec_len};
+ghost use Rattle.std.specs.Prelude.{◌≡◌, ◌≤◌, All, IfOk, length, vec_len};
+ghost use Rattle.desk_pool.specs.Pools.{ReturnEach};
 ghost use Rattle.job_line.specs.Covers.{IsNew, parts_of};
 ghost use Rattle.job_line.specs.Limits.{max_jobs, max_workers};
-ghost use Rattle.crawl_workers.specs.Crews.{AreAllDone, Ends, IsNewWork, MemberView, newcomer, nothing_handed};
+ghost use Rattle.crawl_workers.specs.Crews.{AreAllDone, Ends};
 ghost use Rattle.crawl_workers.specs.Shifts.{AreAllJobs, IsLaterShift, IsShift};
 ghost use Rattle.page_worker.specs.World.{world_of};
 
-use crate::crew::{Crew, Member, Work};
+use crate::crew::{Crew, Work};
 use crate::handover::Handover;
 use crate::order::Order;
 use crate::pace::{Pace, Pauses};
@@ -15,16 +16,17 @@ use crate::places::place_all;
 use crate::report::{Crawled, Report, ShiftFault, Watcher};
 use crate::sites::ShiftSites;
 use crawl_job::Job;
+use desk_pool::{Pool, Returned};
 use fetchers::Fetcher;
 use gate_lock::{Gate, GateLock, Receipts, settle};
-use job_line::{JobLine, JobSeat, MAX_WORKERS};
+use job_line::{JobLine, JobSeat};
 use page_worker::Clock;
 use std::alloc::{AllocError, Global};
 use std::marker::Model;
 use std::sync::Wait;
 use std::thread::Threads;
+use std::time;
 use std::time::Duration;
-use std::{thread, time};
 
 /// Does all jobs over a gate that has made no entry, by 1 to 16 workers, and settles the gate. Each worker
 /// has its own thread, and one is the caller's; if a thread can't be had, its worker works before or after
@@ -225,7 +227,6 @@ fn do_jobs<
         jobs.now workers) }
 {
     let mut outcomes = no_outcomes(alloc, jobs.len())?;
-    let mut handover = Handover::with_room(alloc)?;
     let Order {
         names,
         counts,
@@ -234,20 +235,18 @@ fn do_jobs<
     let places = gate.lend(rt).book().limits().places;
     let sites = ShiftSites::new(alloc, names, &counts, workers, places, pace.delay())?;
     let (line, seats) = JobLine::of_sites(alloc, &counts, workers)?;
-    {
-        let crew = Crew {
-            jobs,
-            line: &line,
-            order: &numbers,
-            counts: &counts,
-            sites: &sites,
-            fetcher,
-            clock,
-            watcher,
-            pace,
-        };
-        crew.do_all(rt, alloc, gate, seats, &mut handover)?;
-    }
+    let crew = Crew {
+        jobs,
+        line: &line,
+        order: &numbers,
+        counts: &counts,
+        sites: &sites,
+        fetcher,
+        clock,
+        watcher,
+        pace,
+    };
+    let handover = crew.do_all(rt, alloc, gate, seats)?;
     let Handover {
         seats,
         drawn,
@@ -277,76 +276,52 @@ fn no_outcomes(alloc: Global, count: usize) -> Result<Vec<Crawled>, AllocError>
     Ok(outcomes)
 }
 
-// A new worker for each seat.
-fn hire<G: Gate>(alloc: Global, seats: Vec<JobSeat>) -> Result<Vec<Member<G>>, AllocError>
-    ensures { IfOk result (λ members. members.items ≡ map newcomer seats.items) }
-{
-    let mut members = Vec::with_capacity(alloc, seats.len())?;
-    for seat in seats {
-        members.push_reserved(Member {
-            work: Work {
-                seat,
-                drawn: Vec::new(alloc),
-                done: Vec::new(alloc),
-            },
-            end: None,
-        });
-    }
-    Ok(members)
-}
-
 impl<F: Fetcher + Sync, C: Clock + Sync, W: Watcher + Sync, P: Pace + Sync> Crew<'_, F, C, W, P> {
-    // Runs all workers, and takes what they hand over.
+    // Runs a worker for each seat, and takes what they hand over.
     fn do_all<G: Gate + Send + Sync, R: Threads + Wait + Sync>(
         &self,
         rt: &R,
         alloc: Global,
         gate: &GateLock<G>,
         seats: Vec<JobSeat>,
-        handover: &mut Handover<G>,
-    ) -> Result<(), ShiftFault>
+    ) -> Result<Handover<G>, ShiftFault>
         requires few { (1 ≤ vec_len seats) × (vec_len seats ≤ max_workers) }
         requires seats { All (IsNew self.now.line.now self.now.counts.now) seats.items }
         requires parts { parts_of seats.items ≡ max_workers }
-        requires new { handover.old ≡ nothing_handed }
-        ensures { OnOk result (AreAllDone
+        ensures { IfOk result (AreAllDone
             (world_of (F.gives self.now.fetcher.now) (F.follows self.now.fetcher.now) (C.reads self.now.clock.now))
             self.now.jobs.now self.now.order.now self.now.line.now self.now.counts.now
-            (vec_len seats) handover.new) }
+            (vec_len seats)) }
     {
-        let mut members = hire(alloc, seats)?;
-        self.employ_all(rt, alloc, gate, &mut members);
-        handover.take_all(members)?;
-        Ok(())
+        let handover = Handover::with_room(alloc)?;
+        let pool = Pool::new(alloc, seats)?;
+        let returned = self.man_all(rt, alloc, gate, pool)?;
+        Ok(handover.filled(returned))
     }
 
     // Runs each worker on its own thread, and the last one on this.
-    fn employ_all<G: Gate + Send + Sync, R: Threads + Wait + Sync>(
+    fn man_all<G: Gate + Send + Sync, R: Threads + Wait + Sync>(
         &self,
         rt: &R,
         alloc: Global,
         gate: &GateLock<G>,
-        members: &mut [Member<G>],
-    )
-        requires new { All (λ member. IsNewWork self.now.line.now self.now.counts.now member.work)
-            members.old }
-        ensures { (i : ℕ) (d : MemberView) → i < length members.old →
-            Ends (world_of (F.gives self.now.fetcher.now) (F.follows self.now.fetcher.now) (C.reads self.now.clock.now))
-            self.now.jobs.now self.now.order.now
-            (slice_index_or members.old i d) (slice_index_or members.new i d) }
+        pool: Pool<JobSeat, Work, Receipts<G>, ShiftFault>,
+    ) -> Result<Returned<Work, Receipts<G>>, ShiftFault>
+        requires { All (IsNew self.now.line.now self.now.counts.now) pool }
+        ensures { IfOk result (λ all. ReturnEach (Ends
+            (world_of (F.gives self.now.fetcher.now) (F.follows self.now.fetcher.now) (C.reads self.now.clock.now))
+            self.now.jobs.now self.now.order.now) pool all.works.items all.receipts.items) }
     {
         let crew = self;
-        thread::for_each_mut(
+        pool.run(
             rt,
-            members,
-            MAX_WORKERS as usize,
-            &|_: usize, member: &mut Member<G>|
-                requires { IsNewWork crew.now.line.now crew.now.counts.now member.old.work }
+            &|seat: JobSeat| -> Result<(Work, Receipts<G>), ShiftFault>
+                requires { IsNew crew.now.line.now crew.now.counts.now seat }
                 ensures { Ends
                     (world_of (F.gives crew.entry.now.fetcher.now) (F.follows crew.entry.now.fetcher.now)
                     (C.reads crew.entry.now.clock.now))
-                    crew.entry.now.jobs.now crew.entry.now.order.now member.old member.new }
-            { crew.employ(rt, alloc, gate, member) },
-        );
+                    crew.entry.now.jobs.now crew.entry.now.order.now seat result }
+            { crew.man_desk(rt, alloc, gate, seat) },
+        )
     }
 }

@@ -6,6 +6,7 @@ ghost use Rattle.line_server.specs.Servers.{AreNumbered};
 
 use client_connections::Connections;
 use job_line::{JobLine, JobSeat, MAX_JOBS, MAX_WORKERS};
+use std::alloc::{AllocError, Global};
 
 // The connections of each number in an endless server: the sixteen numbers cover as many as 64 bits count,
 // so no worker runs out.
@@ -43,4 +44,20 @@ impl ConnectionNumbers<'_> {
     pub(crate) fn draw(&mut self) -> bool {
         self.line.draw(&mut self.seat).is_some()
     }
+}
+
+/// The numbers that each of these seats draws.
+pub(crate) fn numbers_at<'l>(
+    alloc: Global,
+    line: &'l JobLine,
+    seats: Vec<JobSeat>,
+) -> Result<Vec<ConnectionNumbers<'l>>, AllocError>
+    requires own { All (λ seat. seat.line ≡ line.now) seats.items }
+{
+    let mut numbers = Vec::new(alloc);
+    for seat in seats {
+        let of_seat = ConnectionNumbers { line, seat };
+        numbers.push(of_seat).map_err(AllocError::from)?;
+    }
+    Ok(numbers)
 }

@@ -1,5 +1,4 @@
 //! A worker of a server: serves one client after the other to its end.
-ghost use Rattle.std.specs.Prelude.{◌≡◌};
 
 use crate::fault::ServeFault;
 use crate::numbers::{ConnectionNumbers, share_of};
@@ -24,35 +23,26 @@ use std::sync::Wait;
 use std::sync::atomic::{AtomicU64, Ordering};
 use std::time;
 
-/// A worker: its numbers, its count of connections, and once it has ended, its desk's receipts or why there
-/// are none.
-#[derive(Drop)]
-pub(crate) struct Servant<'l, G: Gate> {
-    pub(crate) numbers: ConnectionNumbers<'l>,
-    pub(crate) taken: u64,
-    pub(crate) end: Option<Result<Receipts<G>, ServeFault>>,
-}
-
 impl<F: Fetcher, C: NumberedClock, A: Alarm, R: Wait + time::Clock> Server<'_, F, C, A, R> {
-    /// Serves until no number is left to draw.
+    /// Serves until no number is left to draw: the connections that it took, and its desk's receipts.
+    /// Whatever ended it, one worker less is left.
     pub(crate) fn employ<G: Gate, J: Recorder>(
         &self,
         recorded: &Recorded<'_, G, J, R>,
         left: &AtomicU64,
-        servant: &mut Servant<'_, G>,
-    ) {
-        let end = self.man_desk(recorded, &mut servant.numbers, &mut servant.taken);
-        servant.end = Some(end);
+        numbers: ConnectionNumbers<'_>,
+    ) -> Result<(u64, Receipts<G>), ServeFault> {
+        let end = self.man_desk(recorded, numbers);
         left.fetch_sub(1, Ordering::SeqCst);
+        end
     }
 
     // Opens a desk, serves clients at it, and closes it whatever happened.
     fn man_desk<G: Gate, J: Recorder>(
         &self,
         recorded: &Recorded<'_, G, J, R>,
-        numbers: &mut ConnectionNumbers<'_>,
-        taken: &mut u64,
-    ) -> Result<Receipts<G>, ServeFault> {
+        mut numbers: ConnectionNumbers<'_>,
+    ) -> Result<(u64, Receipts<G>), ServeFault> {
         let fetcher = FetchesBehind {
             ahead: recorded.abreast(),
             fetcher: self.fetcher,
@@ -66,10 +56,11 @@ impl<F: Fetcher, C: NumberedClock, A: Alarm, R: Wait + time::Clock> Server<'_, F
             &recorded.visits,
             desk,
         );
-        let ended = self.take_all(recorded, numbers, &mut keeper, taken);
+        let mut taken = 0;
+        let ended = self.take_all(recorded, &mut numbers, &mut keeper, &mut taken);
         let receipts = keeper.into_keeper().close();
         ended?;
-        Ok(receipts)
+        Ok((taken, receipts))
     }
 
     // Serves clients until no number is left, or none can be accepted.

@@ -1,18 +1,18 @@
 //! A server, from its first client until its gate is settled.
-ghost use Rattle.std.specs.Prelude.{◌≡◌, All, IfOk};
+ghost use Rattle.std.specs.Prelude.{◌≡◌, IfOk};
 ghost use Rattle.job_line.specs.Limits.{IsCrew};
 ghost use Rattle.line_server.specs.Servers.{HasLast, IsServed};
 
 use crate::fault::ServeFault;
-use crate::numbers::{ConnectionNumbers, count_of};
+use crate::numbers::{ConnectionNumbers, count_of, numbers_at};
 use crate::recorded::Recorded;
-use crate::servant::Servant;
 use crate::warden::Alarm;
 use client_connections::{Connections, Listener};
 use command_server::NumberedClock;
+use desk_pool::{Pool, Returned};
 use fetchers::Fetcher;
 use gate_lock::{Gate, GateLock, Receipts, settle};
-use job_line::{JobLine, JobSeat, MAX_WORKERS};
+use job_line::JobLine;
 use journal_files::{Recorder, Unrecorded};
 use keepers::Bounds;
 use path_normal::Authority;
@@ -58,9 +58,13 @@ pub struct Served<G: Gate> {
     pub receipts: Vec<Receipts<G>>,
 }
 
-// The results of the jobs beside the workers, each at its own desk, if asked for.
+// The workers of a server, and the connections that each took.
+type Workers<'l, G> = Pool<ConnectionNumbers<'l>, u64, Receipts<G>, ServeFault>;
+
+// The results of the workers, and of the jobs beside them, each at its own desk, if asked for.
 #[derive(Drop)]
-struct Beside<G: Gate> {
+struct Results<G: Gate> {
+    served: Result<Returned<u64, Receipts<G>>, ServeFault>,
     overseen: Option<Result<Receipts<G>, ServeFault>>,
     fetched: Option<Result<Receipts<G>, ServeFault>>,
 }
@@ -126,9 +130,8 @@ impl<
     {
         let recorded = Recorded::new(self.rt, self.alloc, gate, journal);
         let (line, seats) = JobLine::new(self.alloc, count_of(self.connections), self.workers)?;
-        let mut servants = hire(self.alloc, &line, seats)?;
-        let mut receipts = self.serve_all(&recorded, &mut servants, begun)?;
-        let connections = take_in(servants, &mut receipts)?;
+        let workers = Pool::new(self.alloc, numbers_at(self.alloc, &line, seats)?)?;
+        let (connections, receipts) = self.serve_all(&recorded, workers, begun)?;
         // Entries without a reply are recorded too.
         recorded.see_to()?;
         Ok((connections, receipts))
@@ -151,30 +154,36 @@ impl<
         })
     }
 
-    // Runs the workers on their own threads, and the gate's maintenance on another; the receipts are the
-    // latter's. Without threads, what is named first runs last: then there is no work left for it.
+    // Runs the workers on their own threads, and the gate's maintenance on another: the accepted connections,
+    // and all receipts. Without threads, what is named first runs last: then there is no work left for it.
     fn serve_all<G: Gate + Send + Sync, J: Recorder + Sync>(
         &self,
         recorded: &Recorded<'_, G, J, R>,
-        servants: &mut [Servant<'_, G>],
+        workers: Workers<'_, G>,
         begun: &[Authority],
-    ) -> Result<Vec<Receipts<G>>, ServeFault> {
+    ) -> Result<(u64, Vec<Receipts<G>>), ServeFault> {
         let left = AtomicU64::new(self.workers);
-        let (watched, beside) = thread::join(
+        let (watched, results) = thread::join(
             self.rt,
             || self.watch(recorded, &left),
-            || self.employ_overseen(recorded, &left, servants, begun),
+            || self.employ_overseen(recorded, &left, workers, begun),
         );
         let (swept, sealed) = watched?;
         let mut receipts = Vec::new(self.alloc);
         receipts.push(swept).map_err(AllocError::from)?;
         receipts.push(sealed).map_err(AllocError::from)?;
-        for end in [beside.overseen, beside.fetched] {
+        for end in [results.overseen, results.fetched] {
             if let Some(end) = end {
                 receipts.push(end?).map_err(AllocError::from)?;
             }
         }
-        Ok(receipts)
+        let mut served = results.served?;
+        receipts.append(&mut served.receipts)?;
+        let connections = served
+            .works
+            .iter()
+            .fold(0u64, |all, taken| all.saturating_add(*taken));
+        Ok((connections, receipts))
     }
 
     // Runs the workers, and serves overseers beside them until none is left, if allowed.
@@ -182,26 +191,28 @@ impl<
         &self,
         recorded: &Recorded<'_, G, J, R>,
         left: &AtomicU64,
-        servants: &mut [Servant<'_, G>],
+        workers: Workers<'_, G>,
         begun: &[Authority],
-    ) -> Beside<G> {
+    ) -> Results<G> {
         let Some(listener) = self.overseers else {
-            let fetched = self.employ_fetching(recorded, left, servants, begun);
-            return Beside {
-                overseen: None,
-                fetched,
-            };
+            return self.employ_fetching(recorded, left, workers, begun);
         };
-        let (overseen, fetched) = thread::join(
+        let (overseen, results) = thread::join(
             self.rt,
             || self.oversee(recorded, listener, left),
             || {
-                let fetched = self.employ_fetching(recorded, left, servants, begun);
+                let results = self.employ_fetching(recorded, left, workers, begun);
                 self.shut(listener);
-                fetched
+                results
             },
         );
-        Beside {
+        let Results {
+            served,
+            fetched,
+            ..
+        } = results;
+        Results {
+            served,
             overseen: Some(overseen),
             fetched,
         }
@@ -212,19 +223,26 @@ impl<
         &self,
         recorded: &Recorded<'_, G, J, R>,
         left: &AtomicU64,
-        servants: &mut [Servant<'_, G>],
+        workers: Workers<'_, G>,
         begun: &[Authority],
-    ) -> Option<Result<Receipts<G>, ServeFault>> {
+    ) -> Results<G> {
         if begun.is_empty() {
-            self.employ_all(recorded, left, servants);
-            return None;
+            return Results {
+                served: self.employ_all(recorded, left, workers),
+                overseen: None,
+                fetched: None,
+            };
         }
-        let ((), fetched) = thread::join(
+        let (served, fetched) = thread::join(
             self.rt,
-            || self.employ_all(recorded, left, servants),
+            || self.employ_all(recorded, left, workers),
             || self.fetch_anew(recorded, left, begun),
         );
-        Some(fetched)
+        Results {
+            served,
+            overseen: None,
+            fetched: Some(fetched),
+        }
     }
 
     // Runs each worker on its own thread.
@@ -232,50 +250,11 @@ impl<
         &self,
         recorded: &Recorded<'_, G, J, R>,
         left: &AtomicU64,
-        servants: &mut [Servant<'_, G>],
-    ) {
-        thread::for_each_mut(
+        workers: Workers<'_, G>,
+    ) -> Result<Returned<u64, Receipts<G>>, ServeFault> {
+        workers.run(
             self.rt,
-            servants,
-            MAX_WORKERS as usize,
-            &|_: usize, servant: &mut Servant<'_, G>| self.employ(recorded, left, servant),
-        );
+            &|numbers: ConnectionNumbers<'_>| self.employ(recorded, left, numbers),
+        )
     }
-}
-
-// A new worker for each seat.
-fn hire<'l, G: Gate>(
-    alloc: Global,
-    line: &'l JobLine,
-    seats: Vec<JobSeat>,
-) -> Result<Vec<Servant<'l, G>>, AllocError>
-    requires own { All (λ seat. seat.line ≡ line.now) seats.items }
-{
-    let mut servants = Vec::new(alloc);
-    for seat in seats {
-        let servant = Servant {
-            numbers: ConnectionNumbers { line, seat },
-            taken: 0,
-            end: None,
-        };
-        servants.push(servant).map_err(AllocError::from)?;
-    }
-    Ok(servants)
-}
-
-// The connections of the workers, whose receipts are added. The first without receipts gives the fault.
-fn take_in<G: Gate>(
-    servants: Vec<Servant<'_, G>>,
-    receipts: &mut Vec<Receipts<G>>,
-) -> Result<u64, ServeFault> {
-    let mut all: u64 = 0;
-    for servant in servants {
-        let Servant { taken, end, .. } = servant;
-        let Some(end) = end else {
-            continue;
-        };
-        receipts.push(end?).map_err(AllocError::from)?;
-        all = all.saturating_add(taken);
-    }
-    Ok(all)
 }

@@ -1,0 +1,2 @@
+-- What contracts say of a pool.
+pub mod Pools
