@@ -1,7 +1,11 @@
-//! Sites in memory, as a network for tests.
-//! The product does not use them: fetching their pages needs the same leave as over TCP.
+//! What the tests of several crates share: sites in memory, as a network, new books, and a clock that stands still.
+//! The product uses none of it: fetching these pages needs the same leave as over TCP.
 #![tactic(auto)]
 
+mod books;
+mod clock;
 mod sites;
 
+pub use books::new_book;
+pub use clock::FixedClock;
 pub use sites::{ScriptedPage, ScriptedSites};

@@ -1,7 +1,4 @@
 //! Sessions of clients over memory, at a fixed clock or one that the row moves.
-ghost use Rattle.std.specs.Prelude.{◌≡◌, [], IfOk};
-ghost use Rattle.gate_history.specs.Base.{empty_base};
-ghost use Rattle.gate_core.specs.Limits.{AreLimits};
 
 mod books;
 mod clocks;
@@ -12,25 +9,11 @@ mod turns;
 
 use command_server::{DeskKeeper, Keeper, SessionFault, serve};
 use counted_io::{FailAt, Sink, Source};
-use gate_core::{Book, Config, Limits};
 use gate_lock::{Gate, GateLock, SettleFault, Settled, settle};
-use page_worker::Clock;
-use scripted_sites::{ScriptedPage, ScriptedSites};
+use scripted_sites::{FixedClock, ScriptedPage, ScriptedSites};
 use std::alloc::Global;
-use std::hash::RandomState;
-use std::random::RandomSource;
 use std::sync::Wait;
 use std::test::Fail;
-
-// A fixed clock.
-#[derive(Clone, Copy)]
-struct FixedClock(u64);
-
-impl Clock for FixedClock {
-    fn now(&self) -> u64 {
-        self.0
-    }
-}
 
 // The rows' sites: `a.example` has one page and no robots.txt, `b.example` denies one of its pages.
 const PAGES: [ScriptedPage<'static>; 5] = [
@@ -55,17 +38,6 @@ const PAGES: [ScriptedPage<'static>; 5] = [
         response: b"HTTP/1.1 200 OK\r\nContent-Length: 0\r\n\r\n",
     },
 ];
-
-fn book(rt: &impl RandomSource, alloc: Global, limits: Limits) -> Result<Book, Fail>
-    requires { AreLimits limits }
-    ensures { IfOk result (λ book. (book.base ≡ empty_base) × (book.entries ≡ [])) }
-{
-    let config = Config {
-        limits,
-        keys: RandomState::new(rt)?,
-    };
-    Ok(Book::new(alloc, config)?)
-}
 
 // A session to its end, at moment 110.
 fn served<R: Source, W: Sink, K: Keeper>(

@@ -3,7 +3,6 @@
 //! is fetched.
 
 mod clocks;
-mod gates;
 mod jobs;
 mod leaves;
 mod overlap;

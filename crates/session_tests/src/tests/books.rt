@@ -1,13 +1,14 @@
 //! A session over a book alone: each call is the book's, and nothing is fetched.
 ghost use Rattle.std.specs.Prelude.{◌<◌};
 
-use super::{book, demand, served};
+use super::{demand, served};
 use authority_cache::{LIFE, TimedAnswer, TurnNo};
 use command_server::{BookKeeper, SessionFault};
 use counted_io::FailAt;
 use gate_core::{Book, Limits};
 use path_normal::Authority;
 use robots_verdict::{Answer, Opening};
+use scripted_sites::new_book;
 use std::alloc::Global;
 use std::test::Fail;
 
@@ -52,7 +53,7 @@ const ROWS: [(&str, &str, &str); 7] = [
 #[test]
 fn sessions_over_a_book(rt: HostRuntime) -> Result<(), Fail> {
     for (name, lines, replies) in ROWS {
-        let mut book = book(&rt, rt.alloc(), Limits::usual())?;
+        let mut book = new_book(&rt, rt.alloc(), Limits::usual())?;
         open_site(rt.alloc(), &mut book)?;
         check_row(rt.alloc(), &mut book, name, lines, replies)?;
     }
@@ -89,7 +90,7 @@ fn check_row(
 // Octets without an LF, however many a read brings, are read no further than promised.
 #[test]
 fn a_line_without_an_end(rt: HostRuntime) -> Result<(), Fail> {
-    let mut book = book(&rt, rt.alloc(), Limits::usual())?;
+    let mut book = new_book(&rt, rt.alloc(), Limits::usual())?;
     check_long(rt.alloc(), &mut book, 1)?;
     check_long(rt.alloc(), &mut book, 4_096)?;
     check_long(rt.alloc(), &mut book, 65_536)

@@ -1,11 +1,12 @@
 //! A session over a book while time passes: each line is answered at its own reading.
 
 use super::books::open_site;
-use super::{book, demand};
+use super::demand;
 use command_server::{BookKeeper, serve};
 use counted_io::FailAt;
 use gate_core::{Book, Limits};
 use page_worker::Clock;
+use scripted_sites::new_book;
 use std::alloc::Global;
 use std::sync::atomic::{AtomicUsize, Ordering};
 use std::test::Fail;
@@ -62,7 +63,7 @@ impl Clock for Passing {
 #[test]
 fn time_passes_between_lines(rt: HostRuntime) -> Result<(), Fail> {
     for (name, moments, lines, replies) in ROWS {
-        let mut book = book(&rt, rt.alloc(), Limits::usual())?;
+        let mut book = new_book(&rt, rt.alloc(), Limits::usual())?;
         open_site(rt.alloc(), &mut book)?;
         let clock = Passing {
             moments,

@@ -1,10 +1,11 @@
 //! A session at a desk: pages and robots.txt files are fetched for it, and what it leaves out is given
 //! back.
 
-use super::{book, demand, session_at};
+use super::{demand, session_at};
 use counted_io::FailAt;
 use gate_core::Limits;
 use gate_lock::{Gate, GateLock, SettleFault, Settled, Visit, with_gate};
+use scripted_sites::new_book;
 use std::alloc::Global;
 use std::random::RandomSource;
 use std::sync::Wait;
@@ -111,6 +112,6 @@ fn told<R: Wait + RandomSource>(
     alloc: Global,
     lines: &str,
 ) -> Result<(FailAt, Result<Settled, SettleFault>), Fail> {
-    let book = book(rt, alloc, Limits::usual())?;
+    let book = new_book(rt, alloc, Limits::usual())?;
     with_gate(book, SessionRow { rt, alloc, lines })
 }

@@ -2,11 +2,12 @@
 //! failed
 //! write no line is answered.
 
-use super::{Ended, book, session_at};
+use super::{Ended, session_at};
 use command_server::SessionFault;
 use counted_io::FailAt;
 use gate_core::Limits;
 use gate_lock::{Gate, GateLock, Settled, Visit, with_gate};
+use scripted_sites::new_book;
 use std::alloc::Global;
 use std::random::RandomSource;
 use std::sync::Wait;
@@ -48,7 +49,7 @@ fn ended<R: Wait + RandomSource>(
     read_fails: Option<u64>,
     write_fails: Option<u64>,
 ) -> Result<Ended, Fail> {
-    let book = book(rt, alloc, Limits::usual())?;
+    let book = new_book(rt, alloc, Limits::usual())?;
     let row = FaultRow {
         rt,
         alloc,

@@ -3,14 +3,14 @@
 ghost use Rattle.std.specs.Prelude.{◌≡◌, []};
 ghost use Rattle.gate_history.specs.Base.{empty_base};
 
-use super::{PAGES, book, demand};
+use super::{PAGES, demand};
 use client_connections::{Connections, Listener};
 use gate_core::{Book, Limits};
 use gate_lock::{Blanks, Gate, GateLock};
 use keepers::Bounds;
 use line_server::{Alarm, Server};
 use page_worker::Clock;
-use scripted_sites::ScriptedSites;
+use scripted_sites::{ScriptedSites, new_book};
 use std::alloc::Global;
 use std::io::{Read, Write};
 use std::marker::Brand;
@@ -111,7 +111,7 @@ fn a_sweep_in_time(rt: HostRuntime) -> Result<(), Fail> {
     let _silent = connect(&rt, port)?;
     let mut client = connect(&rt, port)?;
     client.write_all(LINES)?;
-    let book = book(&rt, rt.alloc(), Limits::usual())?;
+    let book = new_book(&rt, rt.alloc(), Limits::usual())?;
     let events = serve_two::<Brand, HostRuntime>(&rt, rt.alloc(), &listener, book, Blanks::new())?;
     let mut replies = Vec::new(rt.alloc());
     client.read_to_end(&mut replies)?;

@@ -2,12 +2,12 @@
 ghost use Rattle.std.specs.Prelude.{◌≡◌, []};
 ghost use Rattle.gate_history.specs.Base.{empty_base};
 
-use super::{PAGES, book, demand, served};
+use super::{PAGES, demand, served};
 use command_server::DeskKeeper;
 use counted_io::{Counted, DeviceFault, FailAt, Sink, Source};
 use gate_core::{Book, Limits};
 use gate_lock::{Blanks, Gate, GateLock, Receipts, Settled, settle};
-use scripted_sites::ScriptedSites;
+use scripted_sites::{ScriptedSites, new_book};
 use std::alloc::Global;
 use std::io::Read;
 use std::marker::Brand;
@@ -165,6 +165,6 @@ fn keep<G: Gate>(
 fn two_sessions_in_turn(rt: HostRuntime) -> Result<(), Fail> {
     let mut limits = Limits::usual();
     limits.slots = 1;
-    let book = book(&rt, rt.alloc(), limits)?;
+    let book = new_book(&rt, rt.alloc(), limits)?;
     both::<Brand, HostRuntime>(&rt, rt.alloc(), book, Blanks::new())
 }

@@ -1,14 +1,13 @@
 //! Jobs over sites in memory: their hops, their bodies, and their desks' entries.
 ghost use Rattle.gate_core.specs.Limits.{AreLimits};
 
-use super::gates::{FixedClock, book};
 use super::pages::{job, pages};
 use super::words::{push_entries, push_numbered};
 use crawl_workers::{Job, Outcome, work};
 use gate_core::Limits;
 use gate_lock::{Gate, GateLock, Mark, Visit, with_gate};
 use permit_book::LAST_GENERATION;
-use scripted_sites::ScriptedSites;
+use scripted_sites::{FixedClock, ScriptedSites, new_book};
 use std::alloc::{AllocError, Global};
 use std::process::Abort;
 use std::random::RandomSource;
@@ -158,7 +157,7 @@ fn given_of<R: Wait + RandomSource>(
 ) -> Result<String, Fail>
     requires { AreLimits limits }
 {
-    let book = book(rt, alloc, limits)?;
+    let book = new_book(rt, alloc, limits)?;
     with_gate(book, JobRow { rt, alloc, url })
 }
 

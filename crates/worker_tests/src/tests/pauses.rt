@@ -2,14 +2,13 @@
 ghost use Rattle.std.specs.Prelude.{◌≡◌, []};
 ghost use Rattle.gate_history.specs.Base.{empty_base};
 
-use super::gates::{FixedClock, book};
 use super::pages::{jobs_of, pages_of};
 use super::shift::report_text;
 use crawl_workers::{Job, run_shift_paced};
 use gate_core::{Book, Limits};
 use gate_lock::{Blanks, Gate, GateLock};
 use job_line::MAX_JOBS;
-use scripted_sites::ScriptedSites;
+use scripted_sites::{FixedClock, ScriptedSites, new_book};
 use std::alloc::Global;
 use std::marker::Brand;
 use std::process::Abort;
@@ -125,7 +124,7 @@ fn given_of<R: Threads + Wait + RandomSource + time::Clock + Sync>(
     jobs: &[Job],
     sites: &ScriptedSites<'_>,
 ) -> Result<String, Fail> {
-    let book = book(rt, alloc, Limits::usual())?;
+    let book = new_book(rt, alloc, Limits::usual())?;
     shift_new::<Brand, R>(rt, alloc, book, Blanks::new(), jobs, sites)
 }
 

@@ -2,7 +2,6 @@
 //! robots.txt is
 //! fetched. RFC 9309, section 2.4.
 
-use super::gates::book;
 use super::overlap::reply;
 use super::pages::job;
 use super::words::push_moments;
@@ -11,6 +10,7 @@ use gate_core::Limits;
 use gate_lock::{Gate, GateLock, Mark, Visit, with_gate};
 use http_wire::{HttpReply, WireFault};
 use path_normal::Schemes;
+use scripted_sites::new_book;
 use std::alloc::{AllocError, Global};
 use std::process::Abort;
 use std::random::RandomSource;
@@ -172,7 +172,7 @@ fn marks_of<R: Wait + RandomSource>(
     site: &Open,
     clock: &Stepping,
 ) -> Result<String, Fail> {
-    let book = book(rt, alloc, Limits::usual())?;
+    let book = new_book(rt, alloc, Limits::usual())?;
     let jobs = TwoJobs {
         rt,
         alloc,

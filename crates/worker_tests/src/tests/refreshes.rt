@@ -1,14 +1,13 @@
 //! Refreshes of answers over sites in memory.
 ghost use Rattle.gate_core.specs.Limits.{AreLimits};
 
-use super::gates::{FixedClock, book};
 use super::pages::pages;
 use super::words::push_entries;
 use crawl_workers::refresh;
 use gate_core::{BeginRefusal, Limits};
 use gate_lock::{Gate, GateLock, Mark, Visit, with_gate};
 use path_normal::Authority;
-use scripted_sites::ScriptedSites;
+use scripted_sites::{FixedClock, ScriptedSites, new_book};
 use std::alloc::{AllocError, Global};
 use std::process::Abort;
 use std::random::RandomSource;
@@ -111,7 +110,7 @@ fn given_of<R: Wait + RandomSource>(
 ) -> Result<String, Fail>
     requires { AreLimits limits }
 {
-    let book = book(rt, alloc, limits)?;
+    let book = new_book(rt, alloc, limits)?;
     with_gate(
         book,
         RefreshRow {

@@ -1,12 +1,11 @@
 //! Sites in memory.
 
-use super::gates::book;
 use super::leaves::{open_site, page_text};
 use super::pages::pages_of;
 use gate_core::Limits;
 use gate_lock::{Gate, GateLock, Visit, with_gate};
 use path_normal::PageUrl;
-use scripted_sites::ScriptedSites;
+use scripted_sites::{ScriptedSites, new_book};
 use std::alloc::Global;
 use std::process::Abort;
 use std::random::RandomSource;
@@ -99,7 +98,7 @@ fn given_of<R: Wait + RandomSource>(
     url: &str,
     limit: usize,
 ) -> Result<String, Fail> {
-    let book = book(rt, alloc, Limits::usual())?;
+    let book = new_book(rt, alloc, Limits::usual())?;
     let row = FetchRow {
         rt,
         alloc,

@@ -5,14 +5,13 @@ ghost use Rattle.std.specs.Prelude.{◌≡◌, []};
 ghost use Rattle.gate_history.specs.Base.{empty_base};
 ghost use Rattle.gate_lock.specs.Desks.{KeepsOut};
 
-use super::gates::{FixedClock, book};
 use super::pages::{jobs_of, pages_of};
 use super::words::push_hops;
 use crawl_workers::{Crawled, Fetcher, Job, Report, ShiftFault, run_shift};
 use gate_core::{Book, Limits};
 use gate_lock::{Blanks, Desk, Gate, GateLock, SettleFault};
 use job_line::{MAX_JOBS, MAX_WORKERS};
-use scripted_sites::ScriptedSites;
+use scripted_sites::{FixedClock, ScriptedSites, new_book};
 use std::alloc::{AllocError, Global};
 use std::marker::Brand;
 use std::process::Abort;
@@ -150,7 +149,7 @@ pub(super) fn given_of<F: Fetcher + Sync, R: Threads + Wait + RandomSource + Syn
     workers: u64,
     fetcher: &F,
 ) -> Result<String, Fail> {
-    let book = book(rt, alloc, Limits::usual())?;
+    let book = new_book(rt, alloc, Limits::usual())?;
     shift_new::<Brand, F, R>(rt, alloc, book, Blanks::new(), jobs, workers, fetcher)
 }
 
@@ -219,7 +218,7 @@ fn sweep<G: Gate, R: Wait>(rt: &R, desk: &mut Desk<'_, G>) -> bool
 #[test]
 fn another_desk_has_swept(rt: HostRuntime) -> Result<(), Fail> {
     let alloc = rt.alloc();
-    let book = book(&rt, alloc, Limits::usual())?;
+    let book = new_book(&rt, alloc, Limits::usual())?;
     let fault = sweep_new::<Brand, HostRuntime>(&rt, alloc, book, Blanks::new())?;
     assert_eq!(rt; fault, Some(ShiftFault::Unsettled(SettleFault::Mismatch)));
     Ok(())

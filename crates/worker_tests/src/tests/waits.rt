@@ -3,7 +3,6 @@ ghost use Rattle.std.specs.Prelude.{◌≡◌, []};
 ghost use Rattle.gate_history.specs.Base.{empty_base};
 ghost use Rattle.gate_lock.specs.Desks.{KeepsOut};
 
-use super::gates::{FixedClock, book};
 use super::jobs::job_text;
 use super::pages::{job, pages};
 use authority_cache::{LIFE, TimedAnswer};
@@ -12,7 +11,7 @@ use gate_core::{Book, Limits};
 use gate_lock::{Blanks, Desk, DesksFull, Gate, GateLock, Visit, with_gate};
 use path_normal::Authority;
 use robots_verdict::{Answer, Opening};
-use scripted_sites::ScriptedSites;
+use scripted_sites::{FixedClock, ScriptedSites, new_book};
 use std::alloc::Global;
 use std::marker::Brand;
 use std::process::Abort;
@@ -124,7 +123,7 @@ fn given_of_both<R: Threads + Wait + RandomSource + time::Clock + Sync>(
     alloc: Global,
     site: &Authority,
 ) -> Result<String, Fail> {
-    let book = book(rt, alloc, Limits::usual())?;
+    let book = new_book(rt, alloc, Limits::usual())?;
     both_new::<Brand, R>(rt, alloc, book, Blanks::new(), site)
 }
 
@@ -217,6 +216,6 @@ fn given_of_busy<R: Wait + RandomSource>(
 ) -> Result<String, Fail> {
     let mut limits = Limits::usual();
     limits.places = 1;
-    let book = book(rt, alloc, limits)?;
+    let book = new_book(rt, alloc, limits)?;
     with_gate(book, BusyRow { rt, alloc, sites })
 }
