@@ -2,9 +2,12 @@
 //! `crawlgate replay` runs it over standard input and output.
 ghost use Rattle.std.specs.Prelude.{◌≡◌, OnErr, OnOk};
 ghost use Rattle.counted_io.specs.Device.{failures_after};
+ghost use Rattle.counted_io.specs.Output.{Pushes};
 ghost use Rattle.command_lines.specs.Answers.{CutsReply, GivesReply};
+ghost use Rattle.command_lines.specs.FaultText.{line_fault_text};
 ghost use Rattle.command_lines.specs.Limits.{max_lines};
 ghost use Rattle.command_lines.specs.Replay.{AnswersArrival, AnswersCall, AnswersLine, AnswersLineAmong, AnswersSeal};
+ghost use Rattle.command_lines.specs.ReplyText.{bye_text, state_text};
 ghost use Rattle.gate_core.specs.Calls.{HasSpare};
 ghost use Rattle.line_text.specs.Limits.{max_long_line};
 ghost use Rattle.command_lines.specs.Session.{Session, failures_after_reads, failures_after_writes};
@@ -19,9 +22,9 @@ use crate::session::run_session;
 use crate::session_fault::SessionFault;
 use crate::verbs::Dialogue;
 use counted_io::{DeviceFault, Output, Sink, Source};
-use gate_core::{Book, Call};
+use gate_core::{Book, Call, State};
 use line_text::MAX_LONG_LINE;
-use path_normal::Schemes;
+use path_normal::{Authority, Schemes};
 use std::alloc::Global;
 
 /// A lent book, which answers lines by their calls in these schemes.
@@ -54,7 +57,7 @@ impl Answerer<Book> for BookLines {
             }
             Ok(Command::State { authority, moment }) => {
                 let state = book.state_of(authority.text(), moment);
-                state_pieces(&authority, state).push(output, sink)?;
+                push_state(&authority, state, output, sink)?;
                 Ok(Flow::Goes)
             }
             Ok(Command::Seal) => {
@@ -62,31 +65,31 @@ impl Answerer<Book> for BookLines {
                 Ok(Flow::Goes)
             }
             Ok(Command::Refresh { .. }) => {
-                fault_pieces(LineFault::Verb).push(output, sink)?;
+                push_fault(LineFault::Verb, output, sink)?;
                 Ok(Flow::Goes)
             }
             Ok(Command::Fetch(_)) => {
-                fault_pieces(LineFault::Verb).push(output, sink)?;
+                push_fault(LineFault::Verb, output, sink)?;
                 Ok(Flow::Goes)
             }
             Ok(Command::Url(_)) => {
-                fault_pieces(LineFault::Verb).push(output, sink)?;
+                push_fault(LineFault::Verb, output, sink)?;
                 Ok(Flow::Goes)
             }
             Ok(Command::Info) => {
-                fault_pieces(LineFault::Verb).push(output, sink)?;
+                push_fault(LineFault::Verb, output, sink)?;
                 Ok(Flow::Goes)
             }
             Ok(Command::Why { .. }) => {
-                fault_pieces(LineFault::Verb).push(output, sink)?;
+                push_fault(LineFault::Verb, output, sink)?;
                 Ok(Flow::Goes)
             }
             Ok(Command::Quit) => {
-                bye_pieces().push(output, sink)?;
+                push_bye(output, sink)?;
                 Ok(Flow::Ends)
             }
             Err(fault) => {
-                fault_pieces(fault).push(output, sink)?;
+                push_fault(fault, output, sink)?;
                 Ok(Flow::Goes)
             }
         }
@@ -138,6 +141,44 @@ pub fn replay_among<R: Source, W: Sink>(
         MAX_LONG_LINE,
         MAX_LINES,
     )
+}
+
+// The reply to a line that asks a book for nothing. This and the next two are not inlined: the stack that their
+// pieces take would be cleared for every line.
+#[inline(never)]
+fn push_fault<W: Sink>(
+    fault: LineFault,
+    output: &mut Output,
+    sink: &mut W,
+) -> Result<(), DeviceFault>
+    ensures { Pushes (W.written sink.old) (W.written sink.new)
+        (W.failures sink.old) (W.failures sink.new) output.old output.new
+        (line_fault_text fault) result }
+{
+    fault_pieces(fault).push(output, sink)
+}
+
+#[inline(never)]
+fn push_bye<W: Sink>(output: &mut Output, sink: &mut W) -> Result<(), DeviceFault>
+    ensures { Pushes (W.written sink.old) (W.written sink.new)
+        (W.failures sink.old) (W.failures sink.new) output.old output.new
+        bye_text result }
+{
+    bye_pieces().push(output, sink)
+}
+
+#[inline(never)]
+fn push_state<W: Sink>(
+    authority: &Authority,
+    state: State,
+    output: &mut Output,
+    sink: &mut W,
+) -> Result<(), DeviceFault>
+    ensures { Pushes (W.written sink.old) (W.written sink.new)
+        (W.failures sink.old) (W.failures sink.new) output.old output.new
+        (state_text authority.now state) result }
+{
+    state_pieces(authority, state).push(output, sink)
 }
 
 fn answer_call<W: Sink>(

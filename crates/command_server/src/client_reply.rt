@@ -107,36 +107,28 @@ impl ClientReply {
             (W.failures sink.old) (W.failures sink.new) output.old output.new
             (client_reply_text self.now) result }
     {
-        match self {
-            ClientReply::Fetched(outcome) => push_fetched(outcome, output, sink),
-            ClientReply::Fault(fault) => fault_pieces(*fault).push(output, sink),
-            ClientReply::Asked(result) => ask_pieces(result).push(output, sink),
-            ClientReply::Started { number, result } => begun_pieces(*number, result).push(
-                output, sink,
-            ),
-            ClientReply::Returned { number, result } => back_pieces(*number, result).push(
-                output, sink,
-            ),
-            ClientReply::Finished { number, result } => finish_pieces(*number, result).push(
-                output, sink,
-            ),
-            ClientReply::Known { authority, state } => state_pieces(authority, *state).push(
-                output, sink,
-            ),
-            ClientReply::Sealed(result) => push_sealed(result, output, sink),
-            ClientReply::Refreshed { authority, result } => {
-                refreshed_pieces(authority, result).push(output, sink)
+        // A row of pieces takes much stack, which is cleared for each line: there is one.
+        let line = match self {
+            ClientReply::Fetched(outcome) => return push_fetched(outcome, output, sink),
+            ClientReply::Sealed(result) => return push_sealed(result, output, sink),
+            ClientReply::Counted { counts, visitors } => {
+                return push_info(*counts, *visitors, output, sink);
             }
-            ClientReply::Written(url) => url_pieces(url).push(output, sink),
-            ClientReply::Counted { counts, visitors } => push_info(
-                *counts, *visitors, output, sink,
-            ),
-            ClientReply::Explained { authority, result } => push_why(
-                authority, result, output, sink,
-            ),
-            ClientReply::NoMemory => refusal_pieces(Refusal::NoMemory).push(output, sink),
-            ClientReply::Bye => bye_pieces().push(output, sink),
-        }
+            ClientReply::Explained { authority, result } => {
+                return push_why(authority, result, output, sink);
+            }
+            ClientReply::Fault(fault) => fault_pieces(*fault),
+            ClientReply::Asked(result) => ask_pieces(result),
+            ClientReply::Started { number, result } => begun_pieces(*number, result),
+            ClientReply::Returned { number, result } => back_pieces(*number, result),
+            ClientReply::Finished { number, result } => finish_pieces(*number, result),
+            ClientReply::Known { authority, state } => state_pieces(authority, *state),
+            ClientReply::Refreshed { authority, result } => refreshed_pieces(authority, result),
+            ClientReply::Written(url) => url_pieces(url),
+            ClientReply::NoMemory => refusal_pieces(Refusal::NoMemory),
+            ClientReply::Bye => bye_pieces(),
+        };
+        line.push(output, sink)
     }
 }
 
