@@ -56,8 +56,8 @@ impl<S: Send + Drop, T: Send + Drop, Q: Send + Drop, E: Send + Drop> Pool<S, T, 
     }
 
     /// Runs each seat's worker, `man`, to its end: each on its own thread, as far as there are threads, and
-    /// the last on the caller's. It allocates nothing. The first fault in the order of the seats is returned,
-    /// and what the others returned is dropped then.
+    /// the last on the caller's. Takes no memory but that of threads. The first fault in the order of the
+    /// seats is returned, and what the others returned is dropped then.
     pub fn run<M: Fn(S) -> Result<(T, Q), E> + Sync, R: Threads + Sync>(
         self,
         rt: &R,
