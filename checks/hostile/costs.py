@@ -8,7 +8,7 @@ from lib.program import resident
 from lib.reading import TEXT_LIMIT, spelled
 
 # how long a line may take that is no ARRIVE, in milliseconds; what takes longer is measured again, since the machine may be busy
-MOST, ATTEMPTS = 20, 3
+MOST, ATTEMPTS = 10, 3
 # how many times as long it may take on this machine
 slower = 1.0
 WALKS = 16
