@@ -27,7 +27,7 @@ pub fn marks_fit(
     lists_fit(alloc, sealed, history, all)
 }
 
-/// The same of whatever has marks. Of sealed entries it may have the places only.
+/// `marks_fit` over anything that has marks. Of sealed entries it may have the places only.
 pub fn lists_fit<T: MarkList>(
     alloc: Global,
     sealed: u64,

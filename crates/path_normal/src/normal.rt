@@ -19,7 +19,7 @@ static KEPT_IN_PATHS: [u8; 256] = *b"\
     %%%%%%%%%%%%%%%%%%%%%%%%%%%%%%%%\
     %%%%%%%%%%%%%%%%%%%%%%%%%%%%%%%%";
 
-// The same of a pattern.
+// Each octet that a pattern keeps, `*` among them, written as above.
 static KEPT_IN_PATTERNS: [u8; 256] = *b"\
     %%%%%%%%%%%%%%%%%%%%%%%%%%%%%%%%\
     %!%#%%&'()*+,-./0123456789:;%=%?\
