@@ -1,6 +1,6 @@
 -- The rows of rule lines in order, and the strongest so far.
--- Used by `rows_of` and `second`.
-use Rattle.std.proofs.Common.{◌≡◌, ◌<◌, ◌+◌, ◌⊎◌, inl, inr, ℕ, Bool, true, false, List, [], ◌∷◌, ◌++◌, Contains, length, map, take, refl, sym, ap, subst, ◌∙◌, slice_index_or}
+-- Used by what compares rule lines with a path.
+use Rattle.std.proofs.Common.{◌≡◌, ◌<◌, ◌≤◌, ◌+◌, ◌⊎◌, inl, inr, ℕ, Bool, true, false, List, [], ◌∷◌, ◌++◌, Contains, length, map, take, refl, sym, ap, subst, ◌∙◌, slice_index_or}
 use Rattle.std.specs.Prelude.{Option, Some, None}
 use Rattle.std.specs.declared.cmp.Ordering.{Ordering}
 use Rattle.std.specs.declared.cmp.Ordering.TheVariants.{Less, Equal, Greater}
@@ -8,12 +8,13 @@ use Rattle.std.specs.Ordering.{is_lt}
 use Rattle.std.specs.Cmp.{IsTotalOrder}
 use Rattle.std.proofs.lemmas.Bool.{true≢false, cond-true, cond-false}
 use Rattle.std.proofs.lemmas.Cmp.{back_total, nat_cmp_total, on_total, then_total, tied_itself}
-use Rattle.std.proofs.lemmas.List.{map_more}
+use Rattle.std.proofs.lemmas.List.{map_more, take_all}
 use Rattle.std.proofs.lemmas.List.Elements.{Contains-append_cases, Contains-append_left, Contains-append_right}
 use Rattle.robots_text.proofs.CallerLemmas.{entry_of, first_of, none_of}
 use Rattle.robots_text.specs.Groups.{Ruled}
 use Rattle.robots_verdict.specs.Weights.{falling, kind_place}
-use Rattle.robots_check.specs.Rows.{AreRows, IsRow, IsSecond, Tried, is_other, is_row_above, stronger_row, weighed_row}
+use Rattle.robots_check.specs.Deciding.{IsFirstOf}
+use Rattle.robots_check.specs.Rows.{AreRows, IsBest, IsRow, Tried, is_row_above, stronger_row, weighed_row}
 
 rows_more : (path : List ℕ) (rules more : List Ruled) (rows others : List Tried) → AreRows path rules rows → AreRows path more others → AreRows path (rules ++ more) (rows ++ others)
 rows_more path [] more [] others are after = after
@@ -63,56 +64,67 @@ entry_more rows last tried stands = elim (Contains-append_cases rows (last ∷ [
 last_stands : (rows : List Tried) (last : Tried) → Contains (rows ++ last ∷ []) last
 last_stands rows last = Contains-append_right rows (last ∷ []) last (first_of last [])
 
-passed_over : (rows : List Tried) (line : ℕ) (best : Option Tried) (last : Tried) → is_other line last ≡ false → IsSecond rows line best → IsSecond (rows ++ last ∷ []) line best
-passed_over rows line None last misses is = λ tried stands other. elim (entry_more rows last tried stands) [
-  | inl before ↦ is tried before other
-  | inr same ↦ true≢false (sym other ∙ ap (is_other line) (sym same) ∙ misses)
+passed_over : (test : Tried → Bool) (rows : List Tried) (best : Option Tried) (last : Tried) → test last ≡ false → IsBest test rows best → IsBest test (rows ++ last ∷ []) best
+passed_over test rows None last misses is = λ tried stands passes. elim (entry_more rows last tried stands) [
+  | inl before ↦ is tried before passes
+  | inr same ↦ true≢false (sym passes ∙ ap test (sym same) ∙ misses)
 ]
-passed_over rows line (Some best) last misses is = record {
+passed_over test rows (Some best) last misses is = record {
   stands = Contains-append_left rows (last ∷ []) best is.stands;
-  other = is.other;
-  strongest = λ tried stands other. elim (entry_more rows last tried stands) [
-    | inl before ↦ is.strongest tried before other
-    | inr same ↦ absurd (true≢false (sym other ∙ ap (is_other line) (sym same) ∙ misses))
+  passes = is.passes;
+  strongest = λ tried stands passes. elim (entry_more rows last tried stands) [
+    | inl before ↦ is.strongest tried before passes
+    | inr same ↦ absurd (true≢false (sym passes ∙ ap test (sym same) ∙ misses))
   ];
 }
 
-weighs : (rows : List Tried) (line : ℕ) (best : Option Tried) (last : Tried) → is_other line last ≡ true → IsSecond rows line best → IsSecond (rows ++ last ∷ []) line (Some (stronger_row best last))
-weighs rows line None last other is = record {
+weighs : (test : Tried → Bool) (rows : List Tried) (best : Option Tried) (last : Tried) → test last ≡ true → IsBest test rows best → IsBest test (rows ++ last ∷ []) (Some (stronger_row best last))
+weighs test rows None last counts is = record {
   stands = last_stands rows last;
-  other = other;
-  strongest = λ tried stands hits. elim (entry_more rows last tried stands) [
-    | inl before ↦ absurd (is tried before hits)
+  passes = counts;
+  strongest = λ tried stands passes. elim (entry_more rows last tried stands) [
+    | inl before ↦ absurd (is tried before passes)
     | inr same ↦ subst (λ t. is_row_above t last ≡ false) same (itself last)
   ];
 }
-weighs rows line (Some best) last other is = by (is_row_above last best) refl
+weighs test rows (Some best) last counts is = by (is_row_above last best) refl
   where
-    by : (up : Bool) → is_row_above last best ≡ up → IsSecond (rows ++ last ∷ []) line (Some (stronger_row (Some best) last))
-    by true up = subst (λ t. IsSecond (rows ++ last ∷ []) line (Some t)) (sym (cond-true (is_row_above last best) last best up)) record {
+    by : (up : Bool) → is_row_above last best ≡ up → IsBest test (rows ++ last ∷ []) (Some (stronger_row (Some best) last))
+    by true up = subst (λ t. IsBest test (rows ++ last ∷ []) (Some t)) (sym (cond-true (is_row_above last best) last best up)) record {
       stands = last_stands rows last;
-      other = other;
-      strongest = λ tried stands hits. elim (entry_more rows last tried stands) [
-        | inl before ↦ through tried last best (is_row_above tried last) refl (is.strongest tried before hits) up
+      passes = counts;
+      strongest = λ tried stands passes. elim (entry_more rows last tried stands) [
+        | inl before ↦ through tried last best (is_row_above tried last) refl (is.strongest tried before passes) up
         | inr same ↦ subst (λ t. is_row_above t last ≡ false) same (itself last)
       ];
     }
-    by false up = subst (λ t. IsSecond (rows ++ last ∷ []) line (Some t)) (sym (cond-false (is_row_above last best) last best up)) record {
+    by false up = subst (λ t. IsBest test (rows ++ last ∷ []) (Some t)) (sym (cond-false (is_row_above last best) last best up)) record {
       stands = Contains-append_left rows (last ∷ []) best is.stands;
-      other = is.other;
-      strongest = λ tried stands hits. elim (entry_more rows last tried stands) [
-        | inl before ↦ is.strongest tried before hits
+      passes = is.passes;
+      strongest = λ tried stands passes. elim (entry_more rows last tried stands) [
+        | inl before ↦ is.strongest tried before passes
         | inr same ↦ subst (λ t. is_row_above t best ≡ false) same up
       ];
     }
 
-step_by : (rows : List Tried) (line : ℕ) (best : Option Tried) (last : Tried) (is : Bool) → is_other line last ≡ is → IsSecond rows line best → IsSecond (rows ++ last ∷ []) line (weighed_row line best last)
-step_by rows line best last true other second = subst (IsSecond (rows ++ last ∷ []) line) (sym (cond-true (is_other line last) (Some (stronger_row best last)) best other)) (weighs rows line best last other second)
-step_by rows line best last false misses second = subst (IsSecond (rows ++ last ∷ []) line) (sym (cond-false (is_other line last) (Some (stronger_row best last)) best misses)) (passed_over rows line best last misses second)
+step_by : (test : Tried → Bool) (rows : List Tried) (best : Option Tried) (last : Tried) (counts : Bool) → test last ≡ counts → IsBest test rows best → IsBest test (rows ++ last ∷ []) (weighed_row counts best last)
+step_by test rows best last true counts is = weighs test rows best last counts is
+step_by test rows best last false misses is = passed_over test rows best last misses is
 
-pub second_more : {X : Type 0} (f : X → Tried) (xs : List X) (i : ℕ) (d : X) (line : ℕ) (best found : Option Tried) → i < length xs → IsSecond (map f (take i xs)) line best → found ≡ weighed_row line best (f (slice_index_or xs i d)) →
-    IsSecond (map f (take (i + 1) xs)) line found
-second_more f xs i d line best found within second is =
-    subst (λ rows. IsSecond rows line found) (sym (map_more f xs i d within))
-    (subst (IsSecond (map f (take i xs) ++ f (slice_index_or xs i d) ∷ []) line) (sym is)
-    (step_by (map f (take i xs)) line best (f (slice_index_or xs i d)) (is_other line (f (slice_index_or xs i d))) refl second))
+pub best_more : (test : Tried → Bool) {X : Type 0} (f : X → Tried) (xs : List X) (i : ℕ) (d : X) (best found : Option Tried) (counts : Bool) → i < length xs → IsBest test (map f (take i xs)) best → test (f (slice_index_or xs i d)) ≡ counts →
+    found ≡ weighed_row counts best (f (slice_index_or xs i d)) → IsBest test (map f (take (i + 1) xs)) found
+best_more test f xs i d best found counts within is passes found_is =
+    subst (λ rows. IsBest test rows found) (sym (map_more f xs i d within))
+    (subst (IsBest test (map f (take i xs) ++ f (slice_index_or xs i d) ∷ [])) (sym found_is)
+    (step_by test (map f (take i xs)) best (f (slice_index_or xs i d)) counts passes is))
+
+pub first_more : (path : List ℕ) {X : Type 0} (f : X → Ruled) (xs : List X) (i : ℕ) (d : X) (best found : Option Tried) (row : Tried) → i < length xs → IsFirstOf path (map f (take i xs)) best → IsRow path (f (slice_index_or xs i d)) row →
+    found ≡ weighed_row row.hits best row → IsFirstOf path (map f (take (i + 1) xs)) found
+first_more path f xs i d best found row within is is_row found_is = record {
+  rows = is.rows ++ row ∷ [];
+  are_rows = row_added path f xs i d is.rows row within is.are_rows is_row;
+  is_first = subst (IsBest (λ tried. tried.hits) (is.rows ++ row ∷ [])) (sym found_is) (step_by (λ tried. tried.hits) is.rows best row row.hits refl is.is_first);
+}
+
+pub best_all : (test : Tried → Bool) {X : Type 0} (f : X → Tried) (xs : List X) (i : ℕ) (best : Option Tried) → length xs ≤ i → IsBest test (map f (take i xs)) best → IsBest test (map f xs) best
+best_all test f xs i best past is = subst (λ l. IsBest test (map f l) best) (take_all i xs past) is

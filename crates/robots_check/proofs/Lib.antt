@@ -8,5 +8,5 @@ mod Passing
 mod Placing
 pub mod Printing
 mod Reading
-mod RuleLines
-mod Showing
+mod Ruling
+mod Saying

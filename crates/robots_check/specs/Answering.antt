@@ -1,15 +1,12 @@
 -- The answers to URLs on their way through an output.
 -- Used by the contracts that push them.
-use Rattle.std.specs.Prelude.{◌≡◌, ◌⊎◌, ℕ, List, [], ◌++◌, Option}
+use Rattle.std.specs.Prelude.{◌≡◌, ℕ, List, ◌++◌, Option}
 use Rattle.counted_io.specs.Device.{AppendsPrefix}
 use Rattle.counted_io.specs.Output.{Passes}
 use Rattle.robots_text.specs.Records.{Numbered}
-use Rattle.robots_check.specs.Answers.{Answer}
-use Rattle.robots_check.specs.Explained.{Explains}
 use Rattle.robots_check.specs.Outcomes.{outcome_of}
 use Rattle.robots_check.specs.Told.{Told, AreTold, answers_text}
 use Rattle.robots_check.specs.declared.detail.Detail.{Detail}
-use Rattle.robots_check.specs.declared.detail.Detail.TheVariants.{Plain, Explained}
 use Rattle.robots_check.specs.declared.check_outcome.CheckOutcome.{CheckOutcome}
 
 -- the answers to all URLs passed, with this outcome
@@ -29,28 +26,3 @@ pub record PassingFront (detail : Detail) (lines : List Numbered) (word : List �
   pub answers : List Told
   pub are : AreTold detail lines word first answers
   pub wrote : AppendsPrefix old new (pending ++ answers_text first answers)
-
--- the text before an answer: none, or its explanation
-abbrev pub IsBeforeOn : Detail → List Numbered → (word path : List ℕ) → Answer → List ℕ → Type 0
-IsBeforeOn Plain lines word path answer before = before ≡ []
-IsBeforeOn Explained lines word path answer before = Explains lines word path answer before
-
--- that text passed
-pub record PassesBefore (detail : Detail) (lines : List Numbered) (word path : List ℕ) (answer : Answer)
-    (old new : Option (List ℕ)) (pending left : List ℕ) : Type 0 where
-  pub before : List ℕ
-  pub is : IsBeforeOn detail lines word path answer before
-  pub passed : Passes old new (pending ++ before) left
-
--- at most a prefix of that text was written
-pub record CutsWithin (detail : Detail) (lines : List Numbered) (word path : List ℕ) (answer : Answer)
-    (old new : Option (List ℕ)) (pending : List ℕ) : Type 0 where
-  pub before : List ℕ
-  pub is : IsBeforeOn detail lines word path answer before
-  pub wrote : AppendsPrefix old new (pending ++ before)
-
--- a prefix of it was written, or nothing
-abbrev pub CutsBefore : Detail → List Numbered → (word path : List ℕ) → Answer → (old new : Option (List ℕ)) → List ℕ
-    → Type 0
-CutsBefore detail lines word path answer old new pending =
-    (new ≡ old) ⊎ CutsWithin detail lines word path answer old new pending

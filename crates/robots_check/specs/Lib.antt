@@ -5,6 +5,7 @@ pub mod AnswerText
 pub mod Answering
 pub mod Answers
 pub mod Checks
+pub mod Deciding
 pub mod Explained
 pub mod Forms
 pub mod Input
@@ -15,5 +16,6 @@ pub mod Prints
 pub mod Ready
 pub mod Rows
 pub mod Rules
+pub mod Said
 pub mod Targets
 pub mod Told

@@ -32,12 +32,14 @@ behind_question (octet ∷ octets) = if octet == question_mark then octets else 
 abbrev pub has_query_apostrophe : List ℕ → Bool
 has_query_apostrophe value = list_any is_apostrophe (behind_question value)
 
+-- the note on a line with such a rule
+abbrev pub apostrophe_note : ℕ → List ℕ
+apostrophe_note line =
+    codes "crawlgate: line " ++ (decimal line ++ codes " matches no URL: a URL has %27 for ' in its query\n")
+
 -- the note on a rule line
 abbrev pub rule_note : ℕ → List ℕ → List ℕ
-rule_note line value =
-    if has_query_apostrophe value
-    then codes "crawlgate: line " ++ (decimal line ++ codes " matches no URL: a URL has %27 for ' in its query\n")
-    else []
+rule_note line value = if has_query_apostrophe value then apostrophe_note line else []
 
 -- the note on the line of this number, if it is a rule
 abbrev pub record_note : ℕ → Record → List ℕ

@@ -41,22 +41,30 @@ is_row_above one other =
 abbrev pub is_other : ℕ → Tried → Bool
 is_other line tried = tried.hits && not (tried.ruled.line == line)
 
--- no other matching row than this line's is stronger
-pub record IsBestOther (rows : List Tried) (line : ℕ) (best : Tried) : Type 0 where
+-- no row that passes the test is stronger
+pub record IsBestOf (test : Tried → Bool) (rows : List Tried) (best : Tried) : Type 0 where
   pub stands : Contains rows best
-  pub other : is_other line best ≡ true
-  pub strongest : (tried : Tried) → Contains rows tried → is_other line tried ≡ true → is_row_above tried best ≡ false
+  pub passes : test best ≡ true
+  pub strongest : (tried : Tried) → Contains rows tried → test tried ≡ true → is_row_above tried best ≡ false
+
+-- the strongest row that passes the test, or none
+abbrev pub IsBest : (Tried → Bool) → List Tried → Option Tried → Type 0
+IsBest test rows None = (tried : Tried) → Contains rows tried → test tried ≡ true → ⊥
+IsBest test rows (Some best) = IsBestOf test rows best
+
+-- the strongest match, or none
+abbrev pub IsFirst : List Tried → Option Tried → Type 0
+IsFirst rows first = IsBest (λ tried. tried.hits) rows first
 
 -- the strongest match other than this line, or none
 abbrev pub IsSecond : List Tried → ℕ → Option Tried → Type 0
-IsSecond rows line None = (tried : Tried) → Contains rows tried → is_other line tried ≡ true → ⊥
-IsSecond rows line (Some best) = IsBestOther rows line best
+IsSecond rows line second = IsBest (is_other line) rows second
 
 -- the stronger of two
 abbrev pub stronger_row : Option Tried → Tried → Tried
 stronger_row None other = other
 stronger_row (Some best) other = if is_row_above other best then other else best
 
--- the stronger of the strongest other and one more row
-abbrev pub weighed_row : ℕ → Option Tried → Tried → Option Tried
-weighed_row line best tried = if is_other line tried then Some (stronger_row best tried) else best
+-- the stronger of the strongest row and one more that counts
+abbrev pub weighed_row : Bool → Option Tried → Tried → Option Tried
+weighed_row counts best tried = if counts then Some (stronger_row best tried) else best

@@ -1,20 +1,17 @@
 //! The user-agent lines of a token's groups, and their lines in an explanation.
 //! RFC 9309, section 2.2.1.
-ghost use Rattle.std.specs.Prelude.{◌≡◌, ◌==◌, IfOk, flat_map, map};
-ghost use Rattle.std.specs.List.{list_any};
+ghost use Rattle.std.specs.Prelude.{◌≡◌, IfOk, flat_map, map};
+ghost use Rattle.std.specs.List.Sorted.{IsNonDecreasing};
 ghost use Rattle.counted_io.specs.Output.{Pushes};
 ghost use Rattle.line_text.specs.Pieces.{piece_text, pieces_text};
-ghost use Rattle.robots_text.specs.Grouped.{grouped_left, grouped_seen};
-ghost use Rattle.robots_text.specs.Records.{numbered_records};
+ghost use Rattle.robots_text.specs.Grouped.{grouped_seen};
 ghost use Rattle.robots_text.specs.Walk.{speaks};
-ghost use Rattle.robots_check.specs.AgentText.{AreHeadsAt, agent_line_text, agent_text, agents_for, agents_text, beside_text, groups_that, head_seen, heads_in, is_head_of};
+ghost use Rattle.robots_check.specs.AgentText.{agent_line_text, agent_text, agents_text, beside_text, head_seen, heads_in, is_head_of};
 
-use crate::detail::Detail;
+use crate::groups::has_group;
 use counted_io::{DeviceFault, Output, Sink};
 use line_text::{AsPieces, Piece, Pieces, push_each};
-use robots_text::{
-    Agent, GroupedRecord, GroupedRecords, RecordKind, RobotsText, Token, Whom, speaks, whom_for,
-};
+use robots_text::{Agent, GroupedRecord, RecordKind, Whom, speaks};
 use std::alloc::{AllocError, Global};
 
 /// A user-agent line of a group for the token.
@@ -26,69 +23,20 @@ pub(crate) struct AgentLine<'t> {
     pub(crate) speaks: bool,
 }
 
-/// The token's user-agent lines, if they are to be explained.
-pub(crate) fn agents_at<'t>(
+/// The user-agent lines of these groups.
+pub(crate) fn heads_in<'t>(
     alloc: Global,
-    text: &'t RobotsText,
-    token: &Token,
-    detail: Detail,
-) -> Result<Vec<AgentLine<'t>>, AllocError>
-    ensures { IfOk result (λ agents.
-        AreHeadsAt detail (numbered_records text.now) token.now (map head_seen agents.items)) }
-{
-    match detail {
-        Detail::Plain => Ok(Vec::new(alloc)),
-        Detail::Explained => agents_for(alloc, text, token),
-    }
-}
-
-fn agents_for<'t>(
-    alloc: Global,
-    text: &'t RobotsText,
-    token: &Token,
-) -> Result<Vec<AgentLine<'t>>, AllocError>
-    ensures { IfOk result (λ agents.
-        map head_seen agents.items ≡ agents_for (numbered_records text.now) token.now) }
-{
-    let whom = whom_for(text.records(), token.text().as_bytes());
-    let groups = groups_that(alloc, text.groups(), whom)?;
-    let heads = heads_in(alloc, text.groups(), whom, groups.as_slice())?;
-    Ok(heads)
-}
-
-// The groups of the remaining lines that speak to them.
-fn groups_that(
-    alloc: Global,
-    lines: GroupedRecords<'_>,
-    whom: Whom<'_>,
-) -> Result<Vec<u64>, AllocError>
-    ensures { IfOk result (λ groups.
-        groups.items ≡ groups_that (speaks whom.entry) (grouped_left lines.entry)) }
-{
-    let mut groups = Vec::new(alloc);
-    let mut left = lines;
-    while let Some(line) = left.next() {
-        if speaks(whom, line.kind) {
-            groups.push(line.group)?;
-        }
-    }
-    Ok(groups)
-}
-
-// The user-agent lines of these groups among the remaining lines.
-fn heads_in<'t>(
-    alloc: Global,
-    lines: GroupedRecords<'t>,
+    said: &[GroupedRecord<'t>],
     whom: Whom<'_>,
     groups: &[u64],
 ) -> Result<Vec<AgentLine<'t>>, AllocError>
+    requires { IsNonDecreasing groups.now }
     ensures { IfOk result (λ heads. map head_seen heads.items
-        ≡ heads_in (speaks whom.entry) groups.now (grouped_left lines.entry)) }
+        ≡ heads_in (speaks whom.entry) groups.now (map grouped_seen said.now)) }
 {
     let mut heads = Vec::new(alloc);
-    let mut left = lines;
-    while let Some(line) = left.next() {
-        if is_head_of(groups, line) {
+    for line in said {
+        if is_head_of(groups, *line) {
             heads.push(AgentLine {
                 line: line.line,
                 kind: line.kind,
@@ -100,18 +48,13 @@ fn heads_in<'t>(
 }
 
 fn is_head_of(groups: &[u64], line: GroupedRecord<'_>) -> bool
+    requires { IsNonDecreasing groups.now }
     ensures { result ≡ is_head_of groups.now (grouped_seen line.entry) }
 {
     match line.kind {
         RecordKind::Agent(_) => has_group(groups, line.group),
         _ => false,
     }
-}
-
-fn has_group(groups: &[u64], sought: u64) -> bool
-    ensures { result ≡ list_any (λ group. group == sought) groups.now }
-{
-    groups.iter().any(|group| *group == sought)
 }
 
 /// Pushes their lines, or one that says that there are none.

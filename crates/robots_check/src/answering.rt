@@ -1,37 +1,36 @@
 //! The answers to URLs, one after another.
 //! See docs/FORMATS.md.
-ghost use Rattle.std.specs.Prelude.{◌≡◌, ◌∷◌, [], Ok, IfErr, IfOk, OnErr, map};
+ghost use Rattle.std.specs.Prelude.{◌≡◌, ◌∷◌, [], Ok, IfErr, IfOk, IfSome, OnErr, map};
 ghost use Rattle.robots_text.specs.Records.{numbered_records};
-ghost use Rattle.robots_check.specs.Answering.{CutsBefore, PassesBefore, Passing, PassingFront};
-ghost use Rattle.robots_check.specs.Answers.{answer_seen};
-ghost use Rattle.robots_check.specs.Targets.{HasFault, page_named};
+ghost use Rattle.robots_check.specs.Answering.{Passing, PassingFront};
+ghost use Rattle.robots_check.specs.Targets.{HasFault, HasPath, page_named};
 ghost use Rattle.robots_check.specs.Ready.{IsReady};
 ghost use Rattle.robots_check.specs.Checks.{IsTellFault, Tells, failures_after_writes};
 ghost use Rattle.robots_check.specs.Notes.{IsNoted, notes_of};
 
-use crate::agents::agents_at;
 use crate::check_outcome::CheckOutcome;
 use crate::detail::Detail;
-use crate::explaining::{push_explanation, reason_pieces, second_for, winner_octets};
+use crate::explaining::{octets_of, push_explanation, reason_pieces, second_for};
 use crate::fault::TextFault;
-use crate::finding::{Finding, finding_pieces};
-use crate::forms::forms_at;
+use crate::finding::{Finding, finding_by, finding_pieces};
 use crate::judge::Judge;
-use crate::notes::tell_rule_notes;
+use crate::notes::tell_said_notes;
 use crate::page::read_page;
-use crate::rows::rows_of;
-use crate::rules::rules_among;
+use crate::rows::{first, rows_of};
+use crate::said::SaidLines;
+use crate::token_lines::token_lines;
 use counted_io::{Output, Sink};
 use path_normal::{PageUrl, Unread, UrlFault};
+use path_pattern::{Path, SuffixArray, empty_room};
 use robots_text::{RobotsText, Token};
 use robots_verdict::Policy;
 use std::alloc::{AllocError, Global};
 
-// The most URLs without an index, which takes as long as several walks over the text.
+// The most URLs without an index: to make one takes as long as to try each rule on so many.
 const FEW_URLS: usize = 16;
 
 /// Reports what may surprise in a text, whose body had so many octets. Then writes the answer to each URL,
-/// and returns their joint outcome.
+/// and returns their joint outcome. An explanation tries each rule anyway, so it needs no index.
 pub(crate) fn answer<W: Sink, E: Sink>(
     alloc: Global,
     text: RobotsText,
@@ -50,33 +49,58 @@ pub(crate) fn answer<W: Sink, E: Sink>(
         (E.written errors.old) (E.written errors.new)
         (E.failures errors.old) (E.failures errors.new)) }
 {
-    let policy = policy_for(alloc, text, urls.len())?;
+    if urls.len() <= FEW_URLS || detail == Detail::Explained {
+        return answer_by(
+            alloc, &text, None, count, token, urls, detail, writer, errors,
+        );
+    }
+    let policy = indexed(alloc, text)?;
     let text = policy.text();
-    let rules = rules_among(alloc, text.records())?;
-    tell_rule_notes(alloc, text, rules.as_slice(), count, errors)?;
-    let forms = forms_at(alloc, text, token, detail)?;
-    let agents = agents_at(alloc, text, token, detail)?;
+    let policy = Some(&policy);
+    answer_by(
+        alloc, text, policy, count, token, urls, detail, writer, errors,
+    )
+}
+
+fn indexed(alloc: Global, text: RobotsText) -> Result<Policy, AllocError>
+    ensures { IfOk result (λ policy. policy ≡ text) }
+{
+    Policy::new(alloc, text)?.indexed(alloc)
+}
+
+// `answer` for a text, perhaps with its policy.
+fn answer_by<W: Sink, E: Sink>(
+    alloc: Global,
+    text: &RobotsText,
+    policy: Option<&Policy>,
+    count: usize,
+    token: &Token,
+    urls: &[&[u8]],
+    detail: Detail,
+    writer: &mut W,
+    errors: &mut E,
+) -> Result<CheckOutcome, TextFault>
+    requires { IfSome policy (λ policy. policy.now ≡ text.now) }
+    ensures tells { Tells detail text.now token.now (map (λ url. url.now) urls.now)
+        (W.written writer.old) (W.written writer.new) result }
+    ensures writes { W.failures writer.new
+        ≡ failures_after_writes (W.failures writer.old) result }
+    ensures notes { IfOk result (λ _. IsNoted (notes_of count (numbered_records text.now))
+        (E.written errors.old) (E.written errors.new)
+        (E.failures errors.old) (E.failures errors.new)) }
+{
+    let said = SaidLines::of(alloc, text)?;
+    tell_said_notes(alloc, &said, count, errors)?;
+    let lines = token_lines(alloc, &said, token, detail)?;
     let judge = Judge {
-        policy: &policy,
+        text,
+        policy,
         token,
-        rules: rules.as_slice(),
-        forms: forms.as_slice(),
-        agents: agents.as_slice(),
+        rules: lines.rules.as_slice(),
+        agents: lines.agents.as_slice(),
         detail,
     };
     write_answers(alloc, judge, urls, writer)
-}
-
-// The policy of a text for this many URLs, indexed if they are many.
-fn policy_for(alloc: Global, text: RobotsText, urls: usize) -> Result<Policy, AllocError>
-    ensures { IfOk result (λ policy. policy ≡ text) }
-{
-    let policy = Policy::new(alloc, text)?;
-    if urls <= FEW_URLS {
-        Ok(policy)
-    } else {
-        policy.indexed(alloc)
-    }
 }
 
 fn write_answers<W: Sink>(
@@ -86,7 +110,7 @@ fn write_answers<W: Sink>(
     writer: &mut W,
 ) -> Result<CheckOutcome, TextFault>
     requires { IsReady judge }
-    ensures tells { Tells judge.entry.detail judge.entry.policy.now judge.entry.token.now
+    ensures tells { Tells judge.entry.detail judge.entry.text.now judge.entry.token.now
         (map (λ url. url.now) urls.now) (W.written writer.old) (W.written writer.new) result }
     ensures writes { W.failures writer.new
         ≡ failures_after_writes (W.failures writer.old) result }
@@ -106,10 +130,10 @@ fn push_answers<W: Sink>(
 ) -> Result<CheckOutcome, TextFault>
     requires { IsReady judge }
     ensures passes { IfOk result (Passing judge.entry.detail
-        (numbered_records judge.entry.policy.now) judge.entry.token.now (map (λ url. url.now) urls.now)
+        (numbered_records judge.entry.text.now) judge.entry.token.now (map (λ url. url.now) urls.now)
         (W.written sink.old) (W.written sink.new) output.old output.new) }
     ensures cut { OnErr result (PassingFront judge.entry.detail
-        (numbered_records judge.entry.policy.now) judge.entry.token.now (map (λ url. url.now) urls.now)
+        (numbered_records judge.entry.text.now) judge.entry.token.now (map (λ url. url.now) urls.now)
         (W.written sink.old) (W.written sink.new) output.old) }
     ensures faults { IfErr result IsTellFault }
     ensures count { W.failures sink.new ≡ failures_after_writes (W.failures sink.old) result }
@@ -131,10 +155,10 @@ fn push_answer<W: Sink>(
 ) -> Result<CheckOutcome, TextFault>
     requires { IsReady judge }
     ensures passes { IfOk result (Passing judge.entry.detail
-        (numbered_records judge.entry.policy.now) judge.entry.token.now (url.now ∷ [])
+        (numbered_records judge.entry.text.now) judge.entry.token.now (url.now ∷ [])
         (W.written sink.old) (W.written sink.new) output.old output.new) }
     ensures cut { OnErr result (PassingFront judge.entry.detail
-        (numbered_records judge.entry.policy.now) judge.entry.token.now (url.now ∷ [])
+        (numbered_records judge.entry.text.now) judge.entry.token.now (url.now ∷ [])
         (W.written sink.old) (W.written sink.new) output.old) }
     ensures faults { IfErr result IsTellFault }
     ensures count { W.failures sink.new ≡ failures_after_writes (W.failures sink.old) result }
@@ -156,10 +180,10 @@ fn push_unread<W: Sink>(
 ) -> Result<CheckOutcome, TextFault>
     requires { HasFault url.now fault }
     ensures passes { IfOk result (Passing judge.entry.detail
-        (numbered_records judge.entry.policy.now) judge.entry.token.now (url.now ∷ [])
+        (numbered_records judge.entry.text.now) judge.entry.token.now (url.now ∷ [])
         (W.written sink.old) (W.written sink.new) output.old output.new) }
     ensures cut { OnErr result (PassingFront judge.entry.detail
-        (numbered_records judge.entry.policy.now) judge.entry.token.now (url.now ∷ [])
+        (numbered_records judge.entry.text.now) judge.entry.token.now (url.now ∷ [])
         (W.written sink.old) (W.written sink.new) output.old) }
     ensures faults { IfErr result IsTellFault }
     ensures count { W.failures sink.new ≡ failures_after_writes (W.failures sink.old) result }
@@ -181,71 +205,127 @@ fn push_page<W: Sink>(
     requires ready { IsReady judge }
     requires named { page_named url.now ≡ Ok page.now }
     ensures passes { IfOk result (Passing judge.entry.detail
-        (numbered_records judge.entry.policy.now) judge.entry.token.now (url.now ∷ [])
+        (numbered_records judge.entry.text.now) judge.entry.token.now (url.now ∷ [])
         (W.written sink.old) (W.written sink.new) output.old output.new) }
     ensures cut { OnErr result (PassingFront judge.entry.detail
-        (numbered_records judge.entry.policy.now) judge.entry.token.now (url.now ∷ [])
+        (numbered_records judge.entry.text.now) judge.entry.token.now (url.now ∷ [])
         (W.written sink.old) (W.written sink.new) output.old) }
     ensures faults { IfErr result IsTellFault }
     ensures count { W.failures sink.new ≡ failures_after_writes (W.failures sink.old) result }
 {
-    let finding = judge.find_page(page);
-    push_before(alloc, judge, page.path_to_match(), finding, output, sink)?;
-    finding_pieces(finding, url).push(output, sink)?;
-    Ok(finding.outcome())
+    let octets = page.path_to_match();
+    if judge.wants_places(octets) {
+        push_slow(alloc, judge, url, octets, output, sink)
+    } else {
+        push_path(alloc, judge, url, &mut Path::new(octets), output, sink)
+    }
 }
 
-// Pushes what comes before an answer.
-fn push_before<W: Sink>(
+// Pushes the answer to a URL when many wildcards may be tried on its long path. Takes much stack, which
+// other answers don't need.
+#[inline(never)]
+fn push_slow<W: Sink>(
     alloc: Global,
     judge: Judge<'_>,
-    path: &[u8],
-    finding: Finding<'_>,
+    url: &[u8],
+    octets: &[u8],
     output: &mut Output,
     sink: &mut W,
-) -> Result<(), TextFault>
-    requires { IsReady judge }
-    ensures passes { IfOk result (λ _. PassesBefore judge.entry.detail
-        (numbered_records judge.entry.policy.now) judge.entry.token.now path.now
-        (answer_seen finding.entry)
+) -> Result<CheckOutcome, TextFault>
+    requires ready { IsReady judge }
+    requires has_path { HasPath url.now octets.now }
+    ensures passes { IfOk result (Passing judge.entry.detail
+        (numbered_records judge.entry.text.now) judge.entry.token.now (url.now ∷ [])
         (W.written sink.old) (W.written sink.new) output.old output.new) }
-    ensures cut { OnErr result (CutsBefore judge.entry.detail
-        (numbered_records judge.entry.policy.now) judge.entry.token.now path.now
-        (answer_seen finding.entry) (W.written sink.old) (W.written sink.new) output.old) }
+    ensures cut { OnErr result (PassingFront judge.entry.detail
+        (numbered_records judge.entry.text.now) judge.entry.token.now (url.now ∷ [])
+        (W.written sink.old) (W.written sink.new) output.old) }
+    ensures faults { IfErr result IsTellFault }
+    ensures count { W.failures sink.new ≡ failures_after_writes (W.failures sink.old) result }
+{
+    let places = SuffixArray::of(octets);
+    let mut room = empty_room();
+    let mut path = Path::with(octets, &places, &mut room);
+    push_path(alloc, judge, url, &mut path, output, sink)
+}
+
+// Pushes the answer to a URL with this path.
+fn push_path<W: Sink>(
+    alloc: Global,
+    judge: Judge<'_>,
+    url: &[u8],
+    path: &mut Path<'_, '_>,
+    output: &mut Output,
+    sink: &mut W,
+) -> Result<CheckOutcome, TextFault>
+    requires ready { IsReady judge }
+    requires has_path { HasPath url.now path.old }
+    ensures passes { IfOk result (Passing judge.entry.detail
+        (numbered_records judge.entry.text.now) judge.entry.token.now (url.now ∷ [])
+        (W.written sink.old) (W.written sink.new) output.old output.new) }
+    ensures cut { OnErr result (PassingFront judge.entry.detail
+        (numbered_records judge.entry.text.now) judge.entry.token.now (url.now ∷ [])
+        (W.written sink.old) (W.written sink.new) output.old) }
     ensures faults { IfErr result IsTellFault }
     ensures count { W.failures sink.new ≡ failures_after_writes (W.failures sink.old) result }
 {
     match judge.detail {
-        Detail::Plain => Ok(()),
-        Detail::Explained => push_explained(alloc, judge, path, finding, output, sink),
+        Detail::Plain => push_plain(judge, url, path, output, sink),
+        Detail::Explained => push_explained(alloc, judge, url, path, output, sink),
     }
 }
 
-// Pushes an answer's explanation. All memory is allocated before anything is pushed.
-fn push_explained<W: Sink>(
-    alloc: Global,
+fn push_plain<W: Sink>(
     judge: Judge<'_>,
-    path: &[u8],
-    finding: Finding<'_>,
+    url: &[u8],
+    path: &mut Path<'_, '_>,
     output: &mut Output,
     sink: &mut W,
-) -> Result<(), TextFault>
+) -> Result<CheckOutcome, TextFault>
     requires ready { IsReady judge }
-    requires explains { judge.detail ≡ Detail.Explained }
-    ensures passes { IfOk result (λ _. PassesBefore Detail.Explained
-        (numbered_records judge.entry.policy.now) judge.entry.token.now path.now
-        (answer_seen finding.entry)
+    requires plain { judge.detail ≡ Detail.Plain }
+    requires has_path { HasPath url.now path.old }
+    ensures passes { IfOk result (Passing judge.entry.detail
+        (numbered_records judge.entry.text.now) judge.entry.token.now (url.now ∷ [])
         (W.written sink.old) (W.written sink.new) output.old output.new) }
-    ensures cut { OnErr result (CutsBefore Detail.Explained
-        (numbered_records judge.entry.policy.now) judge.entry.token.now path.now
-        (answer_seen finding.entry) (W.written sink.old) (W.written sink.new) output.old) }
+    ensures cut { OnErr result (PassingFront judge.entry.detail
+        (numbered_records judge.entry.text.now) judge.entry.token.now (url.now ∷ [])
+        (W.written sink.old) (W.written sink.new) output.old) }
     ensures faults { IfErr result IsTellFault }
     ensures count { W.failures sink.new ≡ failures_after_writes (W.failures sink.old) result }
 {
-    let rows = rows_of(alloc, judge.forms, path)?;
-    let octets = winner_octets(alloc, finding)?;
-    let second = second_for(rows.as_slice(), finding);
-    let reason = reason_pieces(octets, finding, second);
-    push_explanation(judge.agents, rows.as_slice(), reason, output, sink)?;
-    Ok(())
+    let finding = judge.find(path);
+    finding_pieces(finding, url).push(output, sink)?;
+    Ok(finding.outcome())
+}
+
+// Pushes an answer after its explanation. All memory is allocated before anything is pushed.
+fn push_explained<W: Sink>(
+    alloc: Global,
+    judge: Judge<'_>,
+    url: &[u8],
+    path: &mut Path<'_, '_>,
+    output: &mut Output,
+    sink: &mut W,
+) -> Result<CheckOutcome, TextFault>
+    requires ready { IsReady judge }
+    requires explains { judge.detail ≡ Detail.Explained }
+    requires has_path { HasPath url.now path.old }
+    ensures passes { IfOk result (Passing judge.entry.detail
+        (numbered_records judge.entry.text.now) judge.entry.token.now (url.now ∷ [])
+        (W.written sink.old) (W.written sink.new) output.old output.new) }
+    ensures cut { OnErr result (PassingFront judge.entry.detail
+        (numbered_records judge.entry.text.now) judge.entry.token.now (url.now ∷ [])
+        (W.written sink.old) (W.written sink.new) output.old) }
+    ensures faults { IfErr result IsTellFault }
+    ensures count { W.failures sink.new ≡ failures_after_writes (W.failures sink.old) result }
+{
+    let rows = rows_of(alloc, judge.rules, path)?;
+    let rows = rows.as_slice();
+    let first = first(rows);
+    let finding = finding_by(path.octets(), first);
+    let reason = reason_pieces(octets_of(first), finding, second_for(rows, finding));
+    push_explanation(judge.agents, rows, reason, output, sink)?;
+    finding_pieces(finding, url).push(output, sink)?;
+    Ok(finding.outcome())
 }

@@ -1,11 +1,12 @@
 //! Explains an answer: the lines that it comes from, and why the winning one wins.
 //! RFC 9309, section 2.2; see docs/FORMATS.md.
-ghost use Rattle.std.specs.Prelude.{◌≡◌, ◌++◌, IfOk, flat_map, map, option_map};
+ghost use Rattle.std.specs.Prelude.{◌≡◌, ◌++◌, flat_map, map, option_map};
 ghost use Rattle.counted_io.specs.Output.{Pushes};
 ghost use Rattle.line_text.specs.Pieces.{pieces_text};
 ghost use Rattle.robots_check.specs.AgentText.{agents_text, head_seen};
 ghost use Rattle.robots_check.specs.Answers.{answer_seen};
-ghost use Rattle.robots_check.specs.Explained.{IsSecondFor, alike_text, because_by, because_text, hits_text, row_text, winner_octets};
+ghost use Rattle.robots_check.specs.Deciding.{octets_of};
+ghost use Rattle.robots_check.specs.Explained.{IsSecondFor, alike_text, because_by, because_text, hits_text, row_text};
 ghost use Rattle.robots_check.specs.Rows.{row_seen};
 ghost use Rattle.robots_text.specs.Walk.{rule_seen};
 
@@ -14,9 +15,7 @@ use crate::finding::Finding;
 use crate::rows::{ComparedRule, second};
 use counted_io::{DeviceFault, Output, Sink};
 use line_text::{AsPieces, Piece, Pieces, gap_before, push_each, rule_word};
-use path_normal::normal_pattern;
 use robots_text::RuleLine;
-use std::alloc::{AllocError, Global};
 
 /// Pushes the explanation: the user-agent lines, the rows, and the reason.
 pub(crate) fn push_explanation<W: Sink>(
@@ -90,15 +89,13 @@ pub(crate) fn second_for<'t>(
     }
 }
 
-/// The octets of the winning line's normalized pattern.
-pub(crate) fn winner_octets(alloc: Global, finding: Finding<'_>) -> Result<usize, AllocError>
-    ensures { IfOk result (λ octets. octets ≡ winner_octets (answer_seen finding.entry)) }
+/// The octets of a row's normalized pattern, if any.
+pub(crate) fn octets_of(row: Option<ComparedRule<'_>>) -> usize
+    ensures { result ≡ octets_of (option_map row_seen row.entry) }
 {
-    match finding {
-        Finding::Allowed(rule) | Finding::Denied(rule) => {
-            Ok(normal_pattern(alloc, rule.pattern)?.len())
-        }
-        Finding::NoRule | Finding::RobotsFile | Finding::Unread(_) => Ok(0),
+    match row {
+        Some(row) => row.octets,
+        None => 0,
     }
 }
 

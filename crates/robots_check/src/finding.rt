@@ -1,15 +1,19 @@
 //! The answer to a URL, and its line.
 //! See docs/FORMATS.md.
-ghost use Rattle.std.specs.Prelude.{◌≡◌};
+ghost use Rattle.std.specs.Prelude.{◌≡◌, ◌↔◌, IsTrue, option_map};
 ghost use Rattle.line_text.specs.Pieces.{pieces_text};
+ghost use Rattle.robots_verdict.specs.Verdict.{robots_path};
 ghost use Rattle.robots_check.specs.AnswerText.{answer_text, fault_word, rule_answer_text, url_answer_text};
 ghost use Rattle.robots_check.specs.Answers.{answer_seen};
+ghost use Rattle.robots_check.specs.Deciding.{Says};
 ghost use Rattle.robots_check.specs.Outcomes.{outcome_of_one};
+ghost use Rattle.robots_check.specs.Rows.{row_seen};
 
 use crate::check_outcome::CheckOutcome;
+use crate::rows::ComparedRule;
 use line_text::{Piece, Pieces};
 use path_normal::UrlFault;
-use robots_text::RuleLine;
+use robots_text::{RuleKind, RuleLine};
 
 /// The answer to a URL.
 #[derive(Clone, Copy)]
@@ -33,6 +37,28 @@ impl<'t> Finding<'t> {
             Finding::Unread(_) => CheckOutcome::Unread,
         }
     }
+}
+
+/// The finding for a path, by the strongest of the rows that match it.
+pub(crate) fn finding_by<'t>(path: &[u8], first: Option<ComparedRule<'t>>) -> Finding<'t>
+    ensures { Says path.now (option_map row_seen first.entry) (answer_seen result) }
+{
+    if is_robots_path(path) {
+        return Finding::RobotsFile;
+    }
+    match first {
+        None => Finding::NoRule,
+        Some(row) => match row.rule.kind {
+            RuleKind::Allow => Finding::Allowed(row.rule),
+            RuleKind::Disallow => Finding::Denied(row.rule),
+        },
+    }
+}
+
+fn is_robots_path(path: &[u8]) -> bool
+    ensures { IsTrue result ↔ (path.now ≡ robots_path) }
+{
+    path == b"/robots.txt".as_slice()
 }
 
 /// The answer's line for a URL.

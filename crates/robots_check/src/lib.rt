@@ -12,7 +12,7 @@ mod detail;
 mod explaining;
 mod fault;
 mod finding;
-mod forms;
+mod groups;
 mod input;
 mod judge;
 pub mod laws;
@@ -21,6 +21,8 @@ mod notes;
 mod page;
 mod rows;
 mod rules;
+mod said;
+mod token_lines;
 mod writing;
 
 pub use body::{MAX_BODY, read_body};

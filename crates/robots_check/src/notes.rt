@@ -1,19 +1,16 @@
 //! Notes on a robots text, apart from its answers.
 //! See docs/FORMATS.md.
-ghost use Rattle.std.specs.Prelude.{◌≡◌, ◌++◌, [], IfOk, flat_map, map};
-ghost use Rattle.std.specs.List.{list_any};
+ghost use Rattle.std.specs.Prelude.{◌≡◌, ◌++◌, [], IfOk, flat_map};
 ghost use Rattle.counted_io.specs.Output.{Pushes};
 ghost use Rattle.line_text.specs.Pieces.{pieces_text};
-ghost use Rattle.robots_text.specs.Left.{records_left};
-ghost use Rattle.robots_text.specs.Records.{kind_seen, numbered_records};
-ghost use Rattle.robots_text.specs.Walk.{rule_seen};
-ghost use Rattle.robots_check.specs.Notes.{IsNoted, behind_question, cut_note, has_query_apostrophe, is_said, notes_of, rule_note, silent_note};
-ghost use Rattle.robots_check.specs.Rules.{rules_among};
+ghost use Rattle.robots_text.specs.Grouped.{grouped_seen, numbered_of};
+ghost use Rattle.robots_text.specs.Records.{numbered_records};
+ghost use Rattle.robots_check.specs.Notes.{IsNoted, apostrophe_note, behind_question, cut_note, has_query_apostrophe, line_note, notes_of, silent_note};
 
-use crate::rules::rules_among;
+use crate::said::SaidLines;
 use counted_io::{DeviceFault, Output, Sink};
 use line_text::{Piece, Pieces};
-use robots_text::{MAX_TEXT, RecordKind, Records, RobotsText, RuleLine};
+use robots_text::{GroupedRecord, MAX_TEXT, RecordKind, RobotsText};
 use std::alloc::{AllocError, Global};
 
 /// Notes on a text, whose body had so many octets, that may surprise readers of its verdicts. A failed
@@ -28,70 +25,62 @@ pub fn tell_notes<E: Sink>(
         (E.written errors.old) (E.written errors.new)
         (E.failures errors.old) (E.failures errors.new)) }
 {
-    let rules = rules_among(alloc, text.records())?;
-    tell_rule_notes(alloc, text, rules.as_slice(), count, errors)
+    let said = SaidLines::of(alloc, text)?;
+    tell_said_notes(alloc, &said, count, errors)
 }
 
-/// Like `tell_notes`, for a text with these rule lines.
-pub(crate) fn tell_rule_notes<E: Sink>(
+/// Like `tell_notes`, for a text with its lines.
+pub(crate) fn tell_said_notes<E: Sink>(
     alloc: Global,
-    text: &RobotsText,
-    rules: &[RuleLine<'_>],
+    said: &SaidLines<'_>,
     count: usize,
     errors: &mut E,
 ) -> Result<(), AllocError>
-    requires { map rule_seen rules.now ≡ rules_among (numbered_records text.now) }
-    ensures { IfOk result (λ _. IsNoted (notes_of count (numbered_records text.now))
+    ensures { IfOk result (λ _. IsNoted (notes_of count (numbered_records said.now.text.now))
         (E.written errors.old) (E.written errors.new)
         (E.failures errors.old) (E.failures errors.new)) }
 {
     let mut output = Output::new(alloc)?;
-    let _ = write_notes(text, rules, count, &mut output, errors);
+    let _ = write_notes(said, count, &mut output, errors);
     Ok(())
 }
 
 fn write_notes<E: Sink>(
-    text: &RobotsText,
-    rules: &[RuleLine<'_>],
+    said: &SaidLines<'_>,
     count: usize,
     output: &mut Output,
     errors: &mut E,
 ) -> Result<(), DeviceFault>
-    requires pending { output.old ≡ [] }
-    requires rules { map rule_seen rules.now ≡ rules_among (numbered_records text.now) }
-    ensures { IsNoted (notes_of count (numbered_records text.now))
+    requires { output.old ≡ [] }
+    ensures { IsNoted (notes_of count (numbered_records said.now.text.now))
         (E.written errors.old) (E.written errors.new)
         (E.failures errors.old) (E.failures errors.new) }
 {
-    push_notes(text, rules, count, output, errors)?;
+    push_notes(said, count, output, errors)?;
     output.flush(errors)?;
     Ok(())
 }
 
 fn push_notes<E: Sink>(
-    text: &RobotsText,
-    rules: &[RuleLine<'_>],
+    said: &SaidLines<'_>,
     count: usize,
     output: &mut Output,
     errors: &mut E,
 ) -> Result<(), DeviceFault>
-    requires { map rule_seen rules.now ≡ rules_among (numbered_records text.now) }
     ensures { Pushes (E.written errors.old) (E.written errors.new)
         (E.failures errors.old) (E.failures errors.new) output.old output.new
-        (notes_of count (numbered_records text.now)) result }
+        (notes_of count (numbered_records said.now.text.now)) result }
 {
-    head_pieces(text, count).push(output, errors)?;
-    push_rule_notes(rules, output, errors)
+    head_pieces(said, count).push(output, errors)?;
+    push_line_notes(said.lines.as_slice(), output, errors)
 }
 
 // The notes on the whole text.
-fn head_pieces(text: &RobotsText, count: usize) -> Pieces<'static>
-    ensures { pieces_text result ≡ cut_note count ++ silent_note (numbered_records text.now) }
+fn head_pieces(said: &SaidLines<'_>, count: usize) -> Pieces<'static>
+    ensures { pieces_text result
+        ≡ cut_note count ++ silent_note (numbered_records said.now.text.now) }
 {
-    Pieces::of(&[
-        Piece::Text(cut_note(count)),
-        Piece::Text(silent_note(text.records())),
-    ])
+    Pieces::of(&[Piece::Text(cut_note(count)), Piece::Text(silent_note(said))])
 }
 
 fn cut_note(count: usize) -> &'static str
@@ -104,64 +93,57 @@ fn cut_note(count: usize) -> &'static str
     }
 }
 
-fn silent_note(records: Records<'_>) -> &'static str
-    ensures { result.now ≡ silent_note (records_left records.entry) }
+fn silent_note(said: &SaidLines<'_>) -> &'static str
+    ensures { result.now ≡ silent_note (numbered_records said.now.text.now) }
 {
-    let mut left = records;
-    match left.next() {
-        Some(first) if !is_said(first.kind) && !has_said(left) => {
-            "crawlgate: no line of the robots.txt is a record, so it allows all\n"
-        }
-        _ => "",
+    if !said.lines.as_slice().is_empty() {
+        return "";
+    }
+    match said.text.records().next() {
+        Some(_) => "crawlgate: no line of the robots.txt is a record, so it allows all\n",
+        None => "",
     }
 }
 
-// Whether a remaining line is a record.
-fn has_said(records: Records<'_>) -> bool
-    ensures { result ≡ list_any (λ line. is_said line.kind) (records_left records.entry) }
-{
-    let mut left = records;
-    while let Some(record) = left.next() {
-        if is_said(record.kind) {
-            return true;
-        }
-    }
-    false
-}
-
-fn is_said(kind: RecordKind<'_>) -> bool
-    ensures { result ≡ is_said (kind_seen kind.entry) }
-{
-    match kind {
-        RecordKind::Agent(_) | RecordKind::Rule(_, _) => true,
-        RecordKind::Other => false,
-    }
-}
-
-fn push_rule_notes<E: Sink>(
-    rules: &[RuleLine<'_>],
+fn push_line_notes<E: Sink>(
+    lines: &[GroupedRecord<'_>],
     output: &mut Output,
     errors: &mut E,
 ) -> Result<(), DeviceFault>
     ensures { Pushes (E.written errors.old) (E.written errors.new)
         (E.failures errors.old) (E.failures errors.new) output.old output.new
-        (flat_map (λ rule. rule_note rule.line rule.pattern.now) rules.now) result }
+        (flat_map (λ line. line_note (numbered_of (grouped_seen line))) lines.now) result }
 {
-    for rule in rules {
-        rule_note_pieces(*rule).push(output, errors)?;
+    for line in lines {
+        push_line_note(*line, output, errors)?;
     }
     Ok(())
 }
 
-fn rule_note_pieces(rule: RuleLine<'_>) -> Pieces<'static>
-    ensures { pieces_text result ≡ rule_note rule.entry.line rule.entry.pattern.now }
+// Pushes the note on a line, if any: few lines have one.
+fn push_line_note<E: Sink>(
+    line: GroupedRecord<'_>,
+    output: &mut Output,
+    errors: &mut E,
+) -> Result<(), DeviceFault>
+    ensures { Pushes (E.written errors.old) (E.written errors.new)
+        (E.failures errors.old) (E.failures errors.new) output.old output.new
+        (line_note (numbered_of (grouped_seen line.entry))) result }
 {
-    if !has_query_apostrophe(rule.pattern) {
-        return Pieces::whole("");
+    match line.kind {
+        RecordKind::Rule(_, pattern) if has_query_apostrophe(pattern) => {
+            apostrophe_pieces(line.line).push(output, errors)
+        }
+        _ => Ok(()),
     }
+}
+
+fn apostrophe_pieces(line: u64) -> Pieces<'static>
+    ensures { pieces_text result ≡ apostrophe_note line }
+{
     Pieces::of(&[
         Piece::Text("crawlgate: line "),
-        Piece::Number(rule.line),
+        Piece::Number(line),
         Piece::Text(" matches no URL: a URL has %27 for ' in its query\n"),
     ])
 }

@@ -1,47 +1,98 @@
-//! The rule lines of a robots text in order, and their places by number.
-//! RFC 9309, section 2.2.
-ghost use Rattle.std.specs.Prelude.{◌≡◌, ◌<◌, ℕ, IfOk, map};
-ghost use Rattle.robots_text.specs.Left.{records_left};
+//! The rule lines for a token in order, with their patterns normalized once for all URLs, and their places
+//! by number. RFC 9309, section 2.2.2.
+ghost use Rattle.std.specs.Prelude.{◌≡◌, ◌<◌, ℕ, IfOk, map, option_map};
+ghost use Rattle.std.specs.List.{All};
+ghost use Rattle.std.specs.List.Sorted.{IsNonDecreasing};
+ghost use Rattle.path_normal.specs.Normal.{normal_pattern};
+ghost use Rattle.robots_text.specs.Grouped.{grouped_seen};
 ghost use Rattle.robots_text.specs.Walk.{rule_seen};
-ghost use Rattle.robots_check.specs.Rules.{IsRising, IsRuleAt, rules_among};
+ghost use Rattle.robots_check.specs.Forms.{IsFormed, formed_rule};
+ghost use Rattle.robots_check.specs.Rules.{IsRising, IsRuleAt};
+ghost use Rattle.robots_check.specs.Said.{rule_in, rules_in};
 
-use robots_text::{RecordKind, Records, RuleLine};
+use crate::groups::has_group;
+use path_normal::{is_kept_pattern, normal_pattern};
+use robots_text::{GroupedRecord, RecordKind, RuleLine};
 use std::alloc::{AllocError, Global};
 
-/// The rule lines among the remaining records, of any group.
-pub(crate) fn rules_among<'t>(
+/// A rule line, with its pattern's normal form if that is written otherwise.
+#[derive(Drop)]
+pub(crate) struct Formed<'t> {
+    pub(crate) rule: RuleLine<'t>,
+    rewritten: Option<Vec<u8>>,
+}
+
+impl<'t> Formed<'t> {
+    // Most patterns are in normal form and are not copied.
+    fn of(alloc: Global, rule: RuleLine<'t>) -> Result<Formed<'t>, AllocError>
+        ensures rule { IfOk result (λ formed. formed_rule formed ≡ rule_seen rule.entry) }
+        ensures formed { IfOk result IsFormed }
+    {
+        let rewritten = if is_kept_pattern(rule.pattern) {
+            None
+        } else {
+            Some(normal_pattern(alloc, rule.pattern)?)
+        };
+        Ok(Formed { rule, rewritten })
+    }
+
+    /// The pattern in normal form.
+    pub(crate) fn form(&self) -> &[u8]
+        requires { IsFormed self.now }
+        ensures { result.now ≡ normal_pattern (formed_rule self.now).pattern }
+    {
+        match &self.rewritten {
+            Some(form) => form.as_slice(),
+            None => self.rule.pattern,
+        }
+    }
+}
+
+/// The rule lines of these groups.
+pub(crate) fn rules_in<'t>(
     alloc: Global,
-    records: Records<'t>,
-) -> Result<Vec<RuleLine<'t>>, AllocError>
-    ensures { IfOk result (λ rules.
-        map rule_seen rules.items ≡ rules_among (records_left records.entry)) }
+    said: &[GroupedRecord<'t>],
+    groups: &[u64],
+) -> Result<Vec<Formed<'t>>, AllocError>
+    requires { IsNonDecreasing groups.now }
+    ensures rules { IfOk result (λ rules. map formed_rule rules.items
+        ≡ rules_in groups.now (map grouped_seen said.now)) }
+    ensures formed { IfOk result (λ rules. All IsFormed rules.items) }
 {
     let mut rules = Vec::new(alloc);
-    let mut left = records;
-    while let Some(record) = left.next() {
-        if let RecordKind::Rule(kind, pattern) = record.kind {
-            let line = record.line;
-            rules.push(RuleLine {
-                line,
-                kind,
-                pattern,
-            })?;
+    for line in said {
+        if let Some(rule) = rule_in(groups, *line) {
+            rules.push(Formed::of(alloc, rule)?)?;
         }
     }
     Ok(rules)
 }
 
+fn rule_in<'t>(groups: &[u64], line: GroupedRecord<'t>) -> Option<RuleLine<'t>>
+    requires { IsNonDecreasing groups.now }
+    ensures { option_map rule_seen result ≡ rule_in groups.now (grouped_seen line.entry) }
+{
+    match line.kind {
+        RecordKind::Rule(kind, pattern) if has_group(groups, line.group) => Some(RuleLine {
+            line: line.line,
+            kind,
+            pattern,
+        }),
+        _ => None,
+    }
+}
+
 /// The place of the rule line with a number, which must exist.
-pub(crate) fn place_of(rules: &[RuleLine<'_>], line: u64) -> usize
-    requires rising { IsRising (map rule_seen rules.now) }
-    requires there { (place : ℕ) × IsRuleAt (map rule_seen rules.now) line place }
-    ensures { IsRuleAt (map rule_seen rules.now) line result }
+pub(crate) fn place_of(rules: &[Formed<'_>], line: u64) -> usize
+    requires rising { IsRising (map formed_rule rules.now) }
+    requires there { (place : ℕ) × IsRuleAt (map formed_rule rules.now) line place }
+    ensures { IsRuleAt (map formed_rule rules.now) line result }
 {
     let mut low = 0;
     let mut high = rules.len();
     while low < high {
         let middle = low + (high - low) / 2;
-        if rules[middle].line < line {
+        if rules[middle].rule.line < line {
             low = middle + 1;
         } else {
             high = middle;

@@ -6,5 +6,5 @@ use Rattle.robots_check.proofs.answering.push_answers.Given as goal
 
 abbrev pub invariant-loop-url : goal.invariant-loop-url
 invariant-loop-url g l =
-    Passing l.judge.detail (numbered_records l.judge.policy.now) l.judge.token.now (map (λ url. url.now) (take l.url-index l.urls)) (g.W.Sink.written l.initial.sink) (g.W.Sink.written l.sink) l.initial.output l.output l.outcome
+    Passing l.judge.detail (numbered_records l.judge.text.now) l.judge.token.now (map (λ url. url.now) (take l.url-index l.urls)) (g.W.Sink.written l.initial.sink) (g.W.Sink.written l.sink) l.initial.output l.output l.outcome
     × (g.W.Sink.failures l.sink ≡ g.W.Sink.failures l.initial.sink)

@@ -1,46 +1,38 @@
--- What is pushed explains the answer.
+-- The answer passes after its explanation, or either is cut.
 -- By the lemmas of `Before`.
-use Rattle.std.proofs.Common.{◌≡◌, ℕ, List, map, inr, subst}
+use Rattle.std.proofs.Common.{map, ◌∙◌}
 use Rattle.std.specs.Prelude.{option_map}
 use Rattle.counted_io.proofs.CallerLemmas.{on_err}
-use Rattle.robots_text.specs.Records.{Numbered}
-use Rattle.robots_check.specs.AgentText.{AreHeadsAt, Shown, agents_for, head_seen}
+use Rattle.robots_check.specs.AgentText.{head_seen}
 use Rattle.robots_check.specs.Answers.{answer_seen}
-use Rattle.robots_check.specs.Forms.{AreFormsAt, AreFormsFor, formed_rule}
+use Rattle.robots_check.specs.Forms.{formed_rule}
 use Rattle.robots_check.specs.Rows.{row_seen}
-use Rattle.robots_check.specs.declared.detail.Detail.{Detail}
-use Rattle.robots_check.specs.declared.detail.Detail.TheVariants.{Explained}
-use Rattle.robots_check.specs.declared.forms.Formed.{Formed}
-use Rattle.robots_check.proofs.Before.{explains}
+use Rattle.robots_check.proofs.Before.{cuts_before, cuts_page, passes_page, told_explained}
+use Rattle.robots_check.proofs.Passing.{cut_none}
 use Rattle.robots_check.proofs.answering.push_explained.Goals as goal
 
-heads_of_all : (detail : Detail) (lines : List Numbered) (word : List ℕ) (heads : List Shown) → detail ≡ Explained → AreHeadsAt detail lines word heads → heads ≡ agents_for lines word
-heads_of_all detail lines word heads is are = subst (λ d. AreHeadsAt d lines word heads) is are
-
-forms_of_all : (detail : Detail) (lines : List Numbered) (word : List ℕ) (forms : List Formed) → detail ≡ Explained → AreFormsAt detail lines word forms → AreFormsFor lines word forms
-forms_of_all detail lines word forms is are = subst (λ d. AreFormsAt d lines word forms) is are
-
-pub rows_of-requires : goal.rows_of-requires
-rows_of-requires g c = (forms_of_all _ _ _ _ c.requires.explains c.requires.ready.forms).formed
+pub returns-in_err-rows-clause-cut : goal.returns-in_err-rows-clause-cut
+returns-in_err-rows-clause-cut g c = on_err c.from_residual.result (cut_none _ _ _ _ _ _)
 
 pub returns-in_err-push_explanation-clause-cut : goal.returns-in_err-push_explanation-clause-cut
 returns-in_err-push_explanation-clause-cut g c =
-    let forms = forms_of_all _ _ _ _ c.requires.explains c.requires.ready.forms in
-    let heads = heads_of_all _ _ _ _ c.requires.explains c.requires.ready.heads in
-    on_err c.from_residual-in_err-push_explanation.result (inr record {
-      before = _;
-      is = explains _ _ _ (answer_seen c.args.finding) (map head_seen c.args.judge.agents.now) (map formed_rule c.args.judge.forms.now) c.in_ok-rows.rows.items c.as_slice.result.now c.as_slice-2.result.now c.in_ok-octets.octets (option_map row_seen c.second_for-second.result) _
-          heads forms.are_rules c.in_ok-rows.ensures c.as_slice.ensures.value c.as_slice-2.ensures.value c.second_for-second.ensures c.in_ok-octets.ensures c.reason_pieces-reason.ensures;
-      wrote = c.in_err-push_explanation.ensures.err;
-    })
+    on_err c.from_residual-in_err-push_explanation.result
+    (cuts_before _ _ _ c.args.url.now _ _ _ _
+    (told_explained _ _ _ c.args.url.now c.args.path.now c.octets.result.now (answer_seen c.finding_by-finding.result) (map head_seen c.args.judge.agents.now) (map formed_rule c.args.judge.rules.now) c.in_ok-rows.rows.items c.as_slice-rows.result.now (option_map row_seen c.first-first.result) (option_map row_seen c.second_for.result) c.octets_of.result _
+    c.requires.explains c.requires.has_path c.requires.ready.heads c.requires.ready.rules.are_rules (c.in_ok-rows.ensures {u = tt}).rows c.as_slice-rows.ensures.value (c.octets.ensures ∙ c.rows_of.ensures.stays) c.first-first.ensures c.finding_by-finding.ensures c.second_for.ensures c.octets_of.ensures c.reason_pieces-reason.ensures)
+    c.in_err-push_explanation.ensures.err)
+
+pub returns-in_err-push-clause-cut : goal.returns-in_err-push-clause-cut
+returns-in_err-push-clause-cut g c =
+    on_err c.from_residual-in_err-push.result
+    (cuts_page _ _ _ c.args.url.now _ _ _ _ _ _ _
+    (told_explained _ _ _ c.args.url.now c.args.path.now c.octets.result.now (answer_seen c.finding_by-finding.result) (map head_seen c.args.judge.agents.now) (map formed_rule c.args.judge.rules.now) c.in_ok-rows.rows.items c.as_slice-rows.result.now (option_map row_seen c.first-first.result) (option_map row_seen c.second_for.result) c.octets_of.result _
+    c.requires.explains c.requires.has_path c.requires.ready.heads c.requires.ready.rules.are_rules (c.in_ok-rows.ensures {u = tt}).rows c.as_slice-rows.ensures.value (c.octets.ensures ∙ c.rows_of.ensures.stays) c.first-first.ensures c.finding_by-finding.ensures c.second_for.ensures c.octets_of.ensures c.reason_pieces-reason.ensures)
+    c.in_ok-push_explanation.ensures.ok c.finding_pieces.ensures c.in_err-push.ensures.err)
 
 pub returns-clause-passes : goal.returns-clause-passes
 returns-clause-passes g c =
-    let forms = forms_of_all _ _ _ _ c.requires.explains c.requires.ready.forms in
-    let heads = heads_of_all _ _ _ _ c.requires.explains c.requires.ready.heads in
-    record {
-      before = _;
-      is = explains _ _ _ (answer_seen c.args.finding) (map head_seen c.args.judge.agents.now) (map formed_rule c.args.judge.forms.now) c.in_ok-rows.rows.items c.as_slice.result.now c.as_slice-2.result.now c.in_ok-octets.octets (option_map row_seen c.second_for-second.result) _
-          heads forms.are_rules c.in_ok-rows.ensures c.as_slice.ensures.value c.as_slice-2.ensures.value c.second_for-second.ensures c.in_ok-octets.ensures c.reason_pieces-reason.ensures;
-      passed = c.in_ok-push_explanation.ensures.ok;
-    }
+    passes_page _ _ _ c.args.url.now _ _ _ _ _ _ _ _ _
+    (told_explained _ _ _ c.args.url.now c.args.path.now c.octets.result.now (answer_seen c.finding_by-finding.result) (map head_seen c.args.judge.agents.now) (map formed_rule c.args.judge.rules.now) c.in_ok-rows.rows.items c.as_slice-rows.result.now (option_map row_seen c.first-first.result) (option_map row_seen c.second_for.result) c.octets_of.result _
+    c.requires.explains c.requires.has_path c.requires.ready.heads c.requires.ready.rules.are_rules (c.in_ok-rows.ensures {u = tt}).rows c.as_slice-rows.ensures.value (c.octets.ensures ∙ c.rows_of.ensures.stays) c.first-first.ensures c.finding_by-finding.ensures c.second_for.ensures c.octets_of.ensures c.reason_pieces-reason.ensures)
+    c.in_ok-push_explanation.ensures.ok c.finding_pieces.ensures c.in_ok-push.ensures.ok c.outcome.ensures

@@ -14,4 +14,4 @@ pub returns-in_err-flush-clause-tells : goal.returns-in_err-flush-clause-tells
 returns-in_err-flush-clause-tells g c =
     let p = err_from_is_err_and c.from_residual-in_err-flush.result c.from_residual-in_err-flush.ensures.1 in
     rw (p.1, p.2)
-    (told_front _ c.args.judge.policy.now c.args.judge.policy.now _ _ _ _ _ _ _ _ refl c.in_ok-output.ensures.empty c.in_ok-outcome.ensures.passes c.in_err-flush.ensures.err)
+    (told_front _ c.args.judge.text.now c.args.judge.text.now _ _ _ _ _ _ _ _ refl c.in_ok-output.ensures.empty c.in_ok-outcome.ensures.passes c.in_err-flush.ensures.err)

@@ -15,20 +15,20 @@ all_written a b c text pending p wrote = subst (Appends a c) (sym p.split) (Appe
 pub returns-in_err-push_notes : goal.returns-in_err-push_notes
 returns-in_err-push_notes g c = inr (
   c.in_err-push_notes.ensures.count,
-  subst (λ l. AppendsPrefix (g.E.Sink.written c.args.errors.now) (g.E.Sink.written c.push_notes.new.errors) (l ++ notes_of c.args.count (numbered_records c.args.text.now)))
-      c.requires.pending c.in_err-push_notes.ensures.err,
+  subst (λ l. AppendsPrefix (g.E.Sink.written c.args.errors.now) (g.E.Sink.written c.push_notes.new.errors) (l ++ notes_of c.args.count (numbered_records c.args.said.now.text.now)))
+      c.requires c.in_err-push_notes.ensures.err,
 )
 
 pub returns-in_err-flush : goal.returns-in_err-flush
 returns-in_err-flush g c = inr (
   c.in_err-flush.ensures.count ∙ ap one_more c.in_ok-push_notes.ensures.count,
-  subst (λ l. AppendsPrefix (g.E.Sink.written c.args.errors.now) (g.E.Sink.written c.flush.new.sink) (l ++ notes_of c.args.count (numbered_records c.args.text.now)))
-      c.requires.pending (Passes-cut-all _ _ _ _ _ c.in_ok-push_notes.ensures.ok c.in_err-flush.ensures.err),
+  subst (λ l. AppendsPrefix (g.E.Sink.written c.args.errors.now) (g.E.Sink.written c.flush.new.sink) (l ++ notes_of c.args.count (numbered_records c.args.said.now.text.now)))
+      c.requires (Passes-cut-all _ _ _ _ _ c.in_ok-push_notes.ensures.ok c.in_err-flush.ensures.err),
 )
 
 pub returns : goal.returns
 returns g c = inl (
   c.in_ok-flush.ensures.count ∙ c.in_ok-push_notes.ensures.count,
-  subst (λ l. Appends (g.E.Sink.written c.args.errors.now) (g.E.Sink.written c.flush.new.sink) (l ++ notes_of c.args.count (numbered_records c.args.text.now)))
-      c.requires.pending (all_written _ _ _ _ _ c.in_ok-push_notes.ensures.ok c.in_ok-flush.ensures.ok),
+  subst (λ l. Appends (g.E.Sink.written c.args.errors.now) (g.E.Sink.written c.flush.new.sink) (l ++ notes_of c.args.count (numbered_records c.args.said.now.text.now)))
+      c.requires (all_written _ _ _ _ _ c.in_ok-push_notes.ensures.ok c.in_ok-flush.ensures.ok),
 )
