@@ -48,6 +48,31 @@ begun more old new e adds counts b entered left now is enters loses starts =
       turns = omega (arith, ap (λ (b : Balance). b.turns) starts, ap (λ (b : Balance). b.turns) enters, loses.turns_are, is.turns, counts.flights_are);
     })
 
+-- a grant: one entry and one unspent permit more
+pub granted : OneMore → (old new : Gate) (e : Entry) → Adds old e new → Counts (history old) e 0 1 0 0 0 0 0 →
+    (b entered now : Balance) → IsBalanceOf (history old) b → entered ≡ record b { entries = b.entries + 1 } →
+    now ≡ record entered { unspent = entered.unspent + 1 } → IsBalanceOf (history new) now
+granted more old new e adds counts b entered now is enters grants =
+    subst (λ (h : History). IsBalanceOf h now) (sym (grown more old new e adds)) (record {
+      entries = omega (arith, ap (λ (b : Balance). b.entries) grants, ap (λ (b : Balance). b.entries) enters, is.entries, counts.entries_are);
+      starts = omega (arith, ap (λ (b : Balance). b.starts) grants, ap (λ (b : Balance). b.starts) enters, is.starts, counts.started_are);
+      unspent = omega (arith, ap (λ (b : Balance). b.unspent) grants, ap (λ (b : Balance). b.unspent) enters, is.unspent, counts.unspent_are);
+      running = omega (arith, ap (λ (b : Balance). b.running) grants, ap (λ (b : Balance). b.running) enters, is.running, counts.running_are);
+      turns = omega (arith, ap (λ (b : Balance). b.turns) grants, ap (λ (b : Balance). b.turns) enters, is.turns, counts.flights_are);
+    })
+
+-- a denied ask: one entry more
+pub noted : OneMore → (old new : Gate) (e : Entry) → Adds old e new → Counts (history old) e 0 0 0 0 0 0 0 →
+    (b entered : Balance) → IsBalanceOf (history old) b → entered ≡ record b { entries = b.entries + 1 } → IsBalanceOf (history new) entered
+noted more old new e adds counts b entered is enters =
+    subst (λ (h : History). IsBalanceOf h entered) (sym (grown more old new e adds)) (record {
+      entries = omega (arith, ap (λ (b : Balance). b.entries) enters, is.entries, counts.entries_are);
+      starts = omega (arith, ap (λ (b : Balance). b.starts) enters, is.starts, counts.started_are);
+      unspent = omega (arith, ap (λ (b : Balance). b.unspent) enters, is.unspent, counts.unspent_are);
+      running = omega (arith, ap (λ (b : Balance). b.running) enters, is.running, counts.running_are);
+      turns = omega (arith, ap (λ (b : Balance). b.turns) enters, is.turns, counts.flights_are);
+    })
+
 says_balance : (base : Base) (h : History) (b : Balance) → SaysAs (from base) h → IsBalanceOf h b → IsBalanceOf (from base) b
 says_balance base h b says is = record {
   entries = is.entries ∙ sym says.entries;

@@ -1,10 +1,11 @@
 //! `Desk::begin` and `arrive`: a turn to fetch a robots.txt, and its answer.
 //! RFC 9309, section 2.3.
-ghost use Rattle.std.specs.Prelude.{◌≡◌, ◌<◌, ◌≤◌, Err, IfOk, OnErr, true};
+ghost use Rattle.std.specs.Prelude.{◌≡◌, ◌+◌, ◌*◌, ◌^◌, ◌<◌, ◌≤◌, Err, IfOk, length, OnErr, true, vec_capacity};
 ghost use Rattle.gate_history.specs.History.{entry_count};
 ghost use Rattle.gate_history.specs.Standing.{has_turn};
 ghost use Rattle.gate_core.specs.Gate.{history};
 ghost use Rattle.gate_lock.specs.Desks.{HasOut, KeepsOut};
+ghost use Rattle.gate_lock.specs.Results.{BeginsRound, entries_of_ok};
 ghost use Rattle.gate_lock.specs.Steps.{DeskArrives, DeskBegins, Somewhere};
 
 use crate::awaited::Awaited;
@@ -12,9 +13,12 @@ use crate::desk::{Desk, make_room};
 use crate::ledgers::Gate;
 use crate::linear_values::RobotsTurn;
 use crate::lock::Held;
+use crate::round::Round;
+use crate::shares::Mine;
 use authority_cache::TimedAnswer;
 use gate_core::BeginRefusal;
 use gate_history::Entry;
+use gate_marks::Mark;
 use path_normal::Authority;
 use std::alloc::AllocError;
 use std::sync::Wait;
@@ -88,29 +92,16 @@ impl<'a, G: Gate> Desk<'a, G> {
         ensures { DeskBegins self.old held.old kept moment result held.new self.new }
     {
         let promised = self.promised();
-        if make_room(&mut self.marks, promised, 2).is_err() {
-            return Err(self.refuse_begin(held, &kept, moment));
-        }
         let round = &mut *held.guard;
-        let result = round.begin(&kept, moment, &mut self.mine);
+        let mine = &mut self.mine;
+        let result = begin_round(round, named, kept, moment, mine, &mut self.marks, promised);
         self.seen = round.entry_count();
         match result {
-            Ok((turn, one)) => {
+            Ok(turn) => {
                 self.turns += 1;
-                let last = round.last();
-                self.marks.push_reserved(last.mark(Entry::Begun {
-                    moment: last.moment,
-                    authority: named,
-                    turn,
-                }));
-                Ok(RobotsTurn {
-                    authority: kept,
-                    turn,
-                    desk: self.mine.no,
-                    one,
-                })
+                Ok(turn)
             }
-            Err(refusal) => Err(refusal),
+            Err(refused) => Err(refused),
         }
     }
 
@@ -125,8 +116,7 @@ impl<'a, G: Gate> Desk<'a, G> {
         ensures out { HasOut self.old self.new 0 0 0 0 0 1 }
     {
         let gate = self.gate;
-        // An index has megabytes: it is freed outside the lock.
-        let _replaced = {
+        let replaced = {
             let mut held = self.lend_when(
                 rt,
                 &Awaited::Turn {
@@ -139,6 +129,8 @@ impl<'a, G: Gate> Desk<'a, G> {
             held.guard.take_replaced()
         };
         gate.tell();
+        // An index has megabytes: it is freed outside the lock.
+        drop(replaced);
     }
 
     fn arrive_in(
@@ -176,6 +168,47 @@ impl<'a, G: Gate> Desk<'a, G> {
             says,
             life,
         }));
+    }
+}
+
+// The book's begin and the mark of its entry, if there is memory for the marks of its turn beside the
+// promised ones.
+fn begin_round<G: Gate>(
+    round: &mut Round<G>,
+    named: Authority,
+    kept: Authority,
+    moment: u64,
+    mine: &mut Mine<G>,
+    marks: &mut Vec<Mark>,
+    promised: u64,
+) -> Result<RobotsTurn<G>, BeginRefusal>
+    requires same { named ≡ kept }
+    requires few { promised < 2 ^ 63 }
+    requires fits { length marks.old.items + promised ≤ vec_capacity marks.old }
+    ensures begun { BeginsRound round.old kept mine.old marks.old.items moment
+        result round.new mine.new marks.new.items }
+    ensures room { length marks.old.items + promised + 2 * entries_of_ok result
+        ≤ vec_capacity marks.new }
+{
+    if make_room(marks, promised, 2).is_err() {
+        return Err(round.refuse_begin(&kept, moment));
+    }
+    match round.begin(&kept, moment, mine) {
+        Ok((turn, one)) => {
+            let last = round.last();
+            marks.push_reserved(last.mark(Entry::Begun {
+                moment: last.moment,
+                authority: named,
+                turn,
+            }));
+            Ok(RobotsTurn {
+                authority: kept,
+                turn,
+                desk: mine.no,
+                one,
+            })
+        }
+        Err(refusal) => Err(refusal),
     }
 }
 

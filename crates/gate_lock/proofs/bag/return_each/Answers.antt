@@ -1,7 +1,8 @@
 -- Each step spends the last one left, so those spent are the last ones.
-use Rattle.std.proofs.Common.{◌≡◌, ◌++◌, [], ◌∷◌, List, ap, ◌∙◌, append_assoc, arith}
+use Rattle.std.proofs.Common.{◌≡◌, ◌++◌, [], ◌∷◌, List, ap, ◌∙◌, append_assoc, arith, length, rules, subst, sym}
 use Rattle.std.proofs.lemmas.List.Elements.{All-pop}
 use Rattle.numbered_store.specs.Stores.{kept_in}
+use Rattle.gate_lock.specs.Bags.{ReturnsEach}
 use Rattle.gate_lock.specs.Desks.{Pass}
 use Rattle.gate_lock.proofs.bag.return_each.Goals as goal
 
@@ -20,3 +21,16 @@ loop-permit-preserved g c =
         omega (arith, inv.2.3, out.permits_are, out.runs_are, out.turns_are),
       ),
     )
+
+pub returns-clause-step : goal.returns-clause-step
+returns-clause-step g c =
+    let inv = c.loop-permit.invariant in
+    let none : kept_in c.loop-permit.permits ≡ [] = search rules in
+    subst (λ (all : List Pass). ReturnsEach c.args.desk.now all c.loop-permit.desk) (sym (inv.2.1 ∙ ap (λ (left : List Pass). left ++ inv.2.0) none)) inv.2.2
+
+pub returns-clause-out : goal.returns-clause-out
+returns-clause-out g c =
+    let inv = c.loop-permit.invariant in
+    let none : kept_in c.loop-permit.permits ≡ [] = search rules in
+    let count = ap length (inv.2.1 ∙ ap (λ (left : List Pass). left ++ inv.2.0) none) in
+    omega (arith, inv.2.3, count)

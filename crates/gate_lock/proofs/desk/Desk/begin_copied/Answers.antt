@@ -1,15 +1,14 @@
--- The new turn must be spent; there is room for its marks.
-use Rattle.std.proofs.Common.{arith, rules}
-use Rattle.std.proofs.lemmas.Grind.{common_steps}
-use Rattle.gate_lock.proofs.Starts.{starts_in_push}
+-- The desk after the begin: it has a turn and a mark more, if one was begun.
+use Rattle.std.proofs.Common.{rules, arith}
+use Rattle.gate_lock.proofs.Beginning.{begun_desk}
 use Rattle.gate_lock.proofs.desk.Desk.begin_copied.Goals as goal
 
-pub invariant_of-self-in-Ok : goal.invariant_of-self-in-Ok
-invariant_of-self-in-Ok g c = record {
-  none_before = search rules;
-  entries_are = grind (arith, common_steps);
-  starts_are = grind (arith, common_steps, starts_in_push);
-  handed_are = grind (arith, common_steps);
-  few = grind (arith, common_steps);
-  fits = grind (arith, common_steps);
-}
+pub invariant_of-self : goal.invariant_of-self
+invariant_of-self g c =
+    begun_desk c.self.invariant _ _ _ _ _ _ _ _ _ _ c.begin_round-result.ensures.begun
+    (search rules) c.entry_count-self-inside.ensures (search rules) (search rules)
+
+pub invariant_of-self-in-Err : goal.invariant_of-self-in-Err
+invariant_of-self-in-Err g c =
+    begun_desk c.self.invariant _ _ _ _ _ _ _ _ _ _ c.begin_round-result.ensures.begun
+    (search rules) c.entry_count-self-inside.ensures (omega arith) (search rules)
