@@ -9,6 +9,7 @@ use crate::turn::TurnNo;
 use indexmap::IndexMap;
 use robots_verdict::Answer;
 use std::alloc::Global;
+use std::cell::Cell;
 use std::hash::RandomState;
 use std::marker::Model;
 
@@ -25,6 +26,8 @@ pub struct Cache {
     pub(crate) ends: Ends,
     // The answer that the last arrival replaced, freed by whoever takes it.
     pub(crate) replaced: Option<Answer>,
+    // The place of the site that was found last: successive calls are mostly about one site.
+    pub(crate) last: Cell<usize>,
 }
 
 impl Model for Cache {
@@ -51,6 +54,7 @@ impl Cache {
             flights: 0,
             ends: Ends::new(alloc),
             replaced: None,
+            last: Cell::new(0),
         }
     }
 

@@ -1,6 +1,6 @@
 //! Counts of each authority's outstanding permits, so that an ask looks at no slot.
 //! Used by `Book::ask`, and wherever a permit or a fetch ends; `--places` is its limit.
-ghost use Rattle.std.specs.Prelude.{◌≡◌, ◌^◌, ◌<◌, ℕ, List, None, OnErr, OnOk};
+ghost use Rattle.std.specs.Prelude.{◌≡◌, ◌^◌, ◌<◌, ℕ, IfSome, List, None, OnErr, OnOk};
 ghost use Rattle.std.specs.HashMap.{get_by_text};
 ghost use Rattle.permit_book.specs.Table.{out_under};
 ghost use Rattle.gate_core.specs.PlaceCounts.{AddsOne, held_by, IsCount, LeavesPlace, TakesOne};
@@ -8,12 +8,19 @@ ghost use Rattle.gate_core.specs.PlaceCounts.{AddsOne, held_by, IsCount, LeavesP
 use indexmap::IndexMap;
 use permit_book::{PermitNo, Permits};
 use std::alloc::{AllocError, Global};
+use std::cell::Cell;
 use std::hash::RandomState;
 
-/// The counts by authority, without zeros.
+// Up to this many authorities keep their names when nothing is out for them: the next permit is then counted
+// without memory.
+const MOST_KEPT: usize = 64;
+
+/// The counts by authority.
 #[derive(Drop)]
 pub(crate) struct PlaceCounts {
     by_authority: IndexMap<String, u64, RandomState>,
+    // The place of the authority that was found last: successive calls are mostly about one site.
+    last: Cell<usize>,
 }
 
 /// An authority's index in the counts, until they change, and its outstanding permits.
@@ -29,17 +36,45 @@ impl PlaceCounts {
     {
         PlaceCounts {
             by_authority: IndexMap::with_hasher(alloc, keys),
+            last: Cell::new(0),
         }
     }
 
     pub(crate) fn find(&self, authority: &str) -> Count
         ensures { IsCount self.now authority.now result }
     {
-        match self.by_authority.get_full(authority) {
-            Some((index, _authority, count)) => Count {
+        match self.find_again(authority) {
+            Some(held) => held,
+            None => self.search(authority),
+        }
+    }
+
+    // The authority, if it is the one that was found last: no hash is needed.
+    fn find_again(&self, authority: &str) -> Option<Count>
+        ensures { IfSome result (IsCount self.now authority.now) }
+    {
+        let index = self.last.get();
+        match self.by_authority.get_index(index) {
+            Some((name, count)) if name.as_str() == authority => Some(Count {
                 index: Some(index),
                 count: *count,
-            },
+            }),
+            _ => None,
+        }
+    }
+
+    // The authority among all.
+    fn search(&self, authority: &str) -> Count
+        ensures { IsCount self.now authority.now result }
+    {
+        match self.by_authority.get_full(authority) {
+            Some((index, _authority, count)) => {
+                self.last.set(index);
+                Count {
+                    index: Some(index),
+                    count: *count,
+                }
+            }
             None => Count {
                 index: None,
                 count: 0,
@@ -94,12 +129,12 @@ impl PlaceCounts {
         let Some(index) = held.index else {
             return;
         };
-        if held.count <= 1 {
+        if held.count <= 1 && self.by_authority.len() > MOST_KEPT {
             self.by_authority.swap_remove_index(index);
             return;
         }
         match self.by_authority.get_index_mut(index) {
-            Some(count) => *count = held.count - 1,
+            Some(count) => *count = held.count.saturating_sub(1),
             None => unreachable!(),
         }
     }

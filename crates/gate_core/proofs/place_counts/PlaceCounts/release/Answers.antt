@@ -8,8 +8,8 @@ use Rattle.std.specs.String.{string_eq}
 use Rattle.gate_core.proofs.Counting.{somewhere, takes_at, takes_one}
 use Rattle.gate_core.proofs.place_counts.PlaceCounts.release.Goals as goal
 
-pub returns-then-held-le1 : goal.returns-then-held-le1
-returns-then-held-le1 c =
+pub returns-then-len-gt-MOST_KEPT : goal.returns-then-len-gt-MOST_KEPT
+returns-then-len-gt-MOST_KEPT c =
     let m = c.args.self.now.by_authority in
     let a = c.args.authority.now in
     let n = c.swap_remove_index.new.self in
@@ -30,5 +30,5 @@ returns c =
     let m = c.args.self.now.by_authority in
     let a = c.args.authority.now in
     let at = subst (λ (o : Option ℕ). IfSome o (λ i. (name : String Global) × (slice_get m.entries i ≡ Some (name, c.find-held.result.count)) × (string_bytes name ≡ a))) c.in-Some.is c.find-held.ensures.some in
-    takes_at m c.in-Some.index at.0 a c.find-held.result.count at.1 at.2 (c.find-held.result.count - 1) c.get_index_mut.ensures.unique
-    (ap (λ n. n - 1) c.find-held.ensures.count)
+    takes_at m c.in-Some.index at.0 a c.find-held.result.count at.1 at.2 c.saturating_sub.result c.get_index_mut.ensures.unique
+    (c.saturating_sub.ensures ∙ ap (λ n. n - 1) c.find-held.ensures.count)

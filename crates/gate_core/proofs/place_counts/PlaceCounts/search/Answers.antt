@@ -4,7 +4,7 @@ use Rattle.std.specs.Prelude.{unwrap_or}
 use Rattle.std.specs.Str.{bytes_eq}
 use Rattle.std.proofs.lemmas.Slice.Eq.{bytes_eq-Decides}
 use Rattle.gate_core.proofs.Counting.{key_passes}
-use Rattle.gate_core.proofs.place_counts.PlaceCounts.find.Goals as goal
+use Rattle.gate_core.proofs.place_counts.PlaceCounts.search.Goals as goal
 
 pub returns-in-Some : goal.returns-in-Some
 returns-in-Some c =

@@ -6,7 +6,7 @@ use Rattle.authority_cache.specs.Calls.{IsFound}
 use Rattle.authority_cache.specs.Sites.{Known, is_flying, said_site}
 use Rattle.authority_cache.proofs.FoundLaws.{key_passes, said_at}
 use Rattle.authority_cache.proofs.SiteLaws.{found-said, is_named, state-none, state-some}
-use Rattle.authority_cache.proofs.cache.Cache.find.Goals as goal
+use Rattle.authority_cache.proofs.cache.Cache.search.Goals as goal
 
 pub returns-in-Some : goal.returns-in-Some
 returns-in-Some c =
