@@ -15,16 +15,16 @@ use crate::linear_values::Permit;
 use crate::receipts::Receipts;
 use crate::round::Round;
 use crate::tally::Tally;
+use crossbeam_utils::Backoff;
 use gate_core::{Book, Limits};
 use gate_marks::SealedMarks;
 use std::alloc::Global;
-use std::hint::spin_loop;
 use std::marker::Model;
 use std::sync::{Condvar, Mutex, MutexGuard, Wait};
 
 // How often the lock is tried before its caller sleeps. It is held for about a microsecond, and a sleep
 // takes tens of these.
-const TRIES: usize = 200;
+const TRIES: usize = 12;
 
 /// A book under a lock, with the ledgers of what is out.
 #[derive(Drop)]
@@ -169,13 +169,14 @@ impl<G: Gate> GateLock<G> {
     }
 
     // The guard of the lock. It is tried for a while even if others sleep, unlike by `Mutex::lock`: as soon as
-    // one sleeps, every later caller would.
+    // one sleeps, every later caller would. The tries become rarer, since each slows the holder down.
     fn take<R: Wait>(&self, rt: &R) -> MutexGuard<'_, Round<G>> {
+        let backoff = Backoff::new();
         for _ in 0..TRIES {
             if let Some(round) = self.round.try_lock() {
                 return round;
             }
-            spin_loop();
+            backoff.spin();
         }
         self.round.lock(rt)
     }
