@@ -1,6 +1,6 @@
 -- Lemmas that several proofs share.
 pub mod PlainText
-pub mod LineScan
+pub mod KeptWords
 pub mod LineFaults
 pub mod Giving
 pub mod Serving

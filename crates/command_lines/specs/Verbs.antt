@@ -45,7 +45,7 @@ row_of verbs.Quit = row (codes "QUIT") 0 0
 -- all verbs
 abbrev pub all_verbs : List Verb
 all_verbs =
-    verbs.Begin ∷ verbs.Arrive ∷ verbs.Ask ∷ verbs.Start ∷ verbs.Back ∷ verbs.Done
+    verbs.Ask ∷ verbs.Start ∷ verbs.Done ∷ verbs.Back ∷ verbs.Begin ∷ verbs.Arrive
     ∷ verbs.State ∷ verbs.Sweep ∷ verbs.Seal ∷ verbs.Refresh ∷ verbs.Fetch ∷ verbs.Url ∷ verbs.Info ∷ verbs.Why
     ∷ verbs.Quit ∷ []
 
@@ -93,4 +93,4 @@ dialogue_of speakers.Overseer moment fetches = Overseer moment
 
 -- the dialogue's verb of this name, if any
 abbrev pub verb_of : Dialogue → List ℕ → Option Verb
-verb_of dialogue name = find (λ verb. is_in dialogue verb && bytes_eq (row_of verb).name name) all_verbs
+verb_of dialogue name = find (λ verb. bytes_eq (row_of verb).name name && is_in dialogue verb) all_verbs

@@ -7,7 +7,7 @@ ghost use Rattle.command_lines.specs.Answers.{CutsReply, GivesReply};
 ghost use Rattle.command_lines.specs.FaultText.{line_fault_text};
 ghost use Rattle.command_lines.specs.Limits.{max_lines};
 ghost use Rattle.command_lines.specs.Replay.{AnswersArrival, AnswersCall, AnswersLine, AnswersLineAmong, AnswersSeal};
-ghost use Rattle.command_lines.specs.ReplyText.{bye_text, state_text};
+ghost use Rattle.command_lines.specs.ReplyText.{bye_text, reply_text, state_text};
 ghost use Rattle.gate_core.specs.Calls.{HasSpare};
 ghost use Rattle.line_text.specs.Limits.{max_long_line};
 ghost use Rattle.command_lines.specs.Session.{Session, failures_after_reads, failures_after_writes};
@@ -16,13 +16,14 @@ use crate::answerer::{Answerer, Flow};
 use crate::arrival::{Arrival, decide};
 use crate::command::{Command, read_command_knowing};
 use crate::fault::LineFault;
+use crate::page_replies::{push_done, push_go, push_permit};
 use crate::reply_text::{bye_pieces, fault_pieces, reply_pieces, state_pieces};
 use crate::seal_text::push_sealed;
 use crate::session::run_session;
 use crate::session_fault::SessionFault;
 use crate::verbs::Dialogue;
 use counted_io::{DeviceFault, Output, Sink, Source};
-use gate_core::{Book, Call, State};
+use gate_core::{Book, Call, Reply, State};
 use line_text::MAX_LONG_LINE;
 use path_normal::{Authority, Schemes};
 use std::alloc::Global;
@@ -195,7 +196,34 @@ fn answer_call<W: Sink>(
     ensures count { W.failures sink.new ≡ failures_after (W.failures sink.old) result }
 {
     let reply = book.answer(call);
-    reply_pieces(&reply).push(output, sink)
+    push_reply(&reply, output, sink)
+}
+
+fn push_reply<W: Sink>(reply: &Reply, output: &mut Output, sink: &mut W) -> Result<(), DeviceFault>
+    ensures { Pushes (W.written sink.old) (W.written sink.new)
+        (W.failures sink.old) (W.failures sink.new) output.old output.new
+        (reply_text reply.now) result }
+{
+    match reply {
+        Reply::Ask { result: Ok(number) } => push_permit(*number, output, sink),
+        Reply::Start {
+            result: Ok(started),
+        } => { push_go(started.number, started.reason, output, sink) }
+        Reply::Finish {
+            number,
+            result: Ok(()),
+        } => push_done(*number, output, sink),
+        _ => push_other(reply, output, sink),
+    }
+}
+
+#[inline(never)]
+fn push_other<W: Sink>(reply: &Reply, output: &mut Output, sink: &mut W) -> Result<(), DeviceFault>
+    ensures { Pushes (W.written sink.old) (W.written sink.new)
+        (W.failures sink.old) (W.failures sink.new) output.old output.new
+        (reply_text reply.now) result }
+{
+    reply_pieces(reply).push(output, sink)
 }
 
 fn answer_seal<W: Sink>(

@@ -1,6 +1,6 @@
 //! Reads each verb's arguments, from left to right, into a call.
 //! Used by `command`, once their number is right.
-ghost use Rattle.std.specs.Prelude.{◌≡◌, IfOk, IsTrue};
+ghost use Rattle.std.specs.Prelude.{◌≡◌, ◌∷◌, [], IfOk, IsTrue};
 ghost use Rattle.gate_core.specs.Calls.{HasSpare};
 ghost use Rattle.path_normal.specs.Capacity.{IsRead};
 ghost use Rattle.command_lines.specs.CallOf.{arrive_of, authority_alone, job_words_of, permit_alone};
@@ -11,6 +11,7 @@ use crate::arguments::{read_authority, read_known_page, read_number, read_page, 
 use crate::arrival::Arrival;
 use crate::fault::LineFault;
 use crate::known_pages::KnownPages;
+use crate::line_words::LineWords;
 use crate::reply_words::ReplyWords;
 use crate::verbs::Verb;
 use authority_cache::TurnNo;
@@ -25,10 +26,10 @@ use std::alloc::Global;
 pub fn read_authority_alone(
     alloc: Global,
     schemes: Schemes,
-    words: Words<'_>,
+    words: LineWords<'_, '_>,
 ) -> Result<Authority, LineFault>
-    requires { IsTrue (takes Verb.State (words_left words)) }
-    ensures { IsRead result (authority_alone schemes (words_left words.entry)) }
+    requires { IsTrue (takes Verb.State words) }
+    ensures { IsRead result (authority_alone schemes words.entry) }
 {
     let mut words = words;
     let authority = words.first();
@@ -61,13 +62,29 @@ pub fn read_arrive(
 }
 
 /// Reads the arguments of `ASK` and `FETCH`: `<token> <url>`.
-pub fn read_job_words(alloc: Global, schemes: Schemes, words: Words<'_>) -> Result<Job, LineFault>
-    requires { IsTrue (takes Verb.Fetch (words_left words)) }
-    ensures { IsRead result (job_words_of schemes (words_left words.entry)) }
+pub fn read_job_words(
+    alloc: Global,
+    schemes: Schemes,
+    words: LineWords<'_, '_>,
+) -> Result<Job, LineFault>
+    requires { IsTrue (takes Verb.Fetch words) }
+    ensures { IsRead result (job_words_of schemes words.entry) }
 {
     let mut words = words;
     let token = words.first();
     let url = words.first();
+    read_job_of(alloc, schemes, token, url)
+}
+
+/// Reads the words `<token> <url>`.
+pub fn read_job_of(
+    alloc: Global,
+    schemes: Schemes,
+    token: &str,
+    url: &str,
+) -> Result<Job, LineFault>
+    ensures { IsRead result (job_words_of schemes (token.now ∷ url.now ∷ [])) }
+{
     let token = read_token(alloc, token)?;
     let url = read_page(alloc, schemes, url)?;
     Ok(Job { token, url })
@@ -78,11 +95,11 @@ pub fn read_start<P: KnownPages>(
     alloc: Global,
     schemes: Schemes,
     moment: u64,
-    words: Words<'_>,
+    words: LineWords<'_, '_>,
     pages: &P,
 ) -> Result<Call, LineFault>
-    requires { IsTrue (takes Verb.Start (words_left words)) }
-    ensures read { IsRead result (start_of schemes moment (words_left words.entry)) }
+    requires { IsTrue (takes Verb.Start words) }
+    ensures read { IsRead result (start_of schemes moment words.entry) }
     ensures spare { IfOk result HasSpare }
 {
     let mut words = words;
@@ -104,10 +121,10 @@ pub fn read_start<P: KnownPages>(
 pub fn read_page_alone(
     alloc: Global,
     schemes: Schemes,
-    words: Words<'_>,
+    words: LineWords<'_, '_>,
 ) -> Result<PageUrl, LineFault>
-    requires { IsTrue (takes Verb.Url (words_left words)) }
-    ensures { IsRead result (page_alone schemes (words_left words.entry)) }
+    requires { IsTrue (takes Verb.Url words) }
+    ensures { IsRead result (page_alone schemes words.entry) }
 {
     let mut words = words;
     let url = words.first();
@@ -116,9 +133,9 @@ pub fn read_page_alone(
 }
 
 /// Reads the argument of `BACK` and `DONE`: `<n>`.
-pub fn read_permit_alone(words: Words<'_>) -> Result<PermitNo, LineFault>
-    requires { IsTrue (takes Verb.Back (words_left words)) }
-    ensures { result ≡ permit_alone (words_left words.entry) }
+pub fn read_permit_alone(words: LineWords<'_, '_>) -> Result<PermitNo, LineFault>
+    requires { IsTrue (takes Verb.Back words) }
+    ensures { result ≡ permit_alone words.entry }
 {
     let mut words = words;
     let number = words.first();

@@ -5,7 +5,6 @@ ghost use Rattle.path_normal.specs.Capacity.{IsRead};
 ghost use Rattle.command_lines.specs.CallOf.{arguments_of, CanBeMade, command_of_among, command_of};
 ghost use Rattle.command_lines.specs.CallOf.{is_line_octet};
 ghost use Rattle.command_lines.specs.CallOf.{has_line_octets, takes, timed_words_of, verb_words_of};
-ghost use Rattle.line_text.specs.Words.{words_left};
 
 use crate::arrival::Arrival;
 use crate::calls::{
@@ -14,11 +13,11 @@ use crate::calls::{
 };
 use crate::fault::LineFault;
 use crate::known_pages::{KnownPages, NoPages};
-use crate::line_words::LineWords;
+use crate::line_words::{FRONT, LineWords};
 use crate::verbs::{Dialogue, Verb};
 use crawl_job::Job;
 use gate_core::Call;
-use line_text::{Words, number_of};
+use line_text::number_of;
 use path_normal::{Authority, PageUrl, Schemes};
 use std::alloc::Global;
 
@@ -83,7 +82,8 @@ pub fn read_command_knowing<'a, P: KnownPages>(
     ensures read { IsRead result (command_of_among schemes dialogue line.now) }
     ensures spare { IfOk result CanBeMade }
 {
-    let words = match LineWords::of(line) {
+    let mut room = [""; FRONT];
+    let words = match LineWords::of(line, &mut room) {
         Ok(words) => words,
         Err(fault) => return Err(fault),
     };
@@ -105,10 +105,16 @@ pub(crate) fn plain_text(line: &[u8]) -> Option<&str>
     std::str::from_utf8(line).ok()
 }
 
-fn has_line_octets(line: &[u8]) -> bool
+/// Whether a line has only the octets of command lines. It has no early end, so that many octets are tested at
+/// once.
+pub(crate) fn has_line_octets(line: &[u8]) -> bool
     ensures { result ≡ has_line_octets line.now }
 {
-    line.iter().all(|octet| is_line_octet(*octet))
+    let mut has = true;
+    for octet in line {
+        has &= is_line_octet(*octet);
+    }
+    has
 }
 
 fn is_line_octet(octet: u8) -> bool
@@ -120,7 +126,7 @@ fn is_line_octet(octet: u8) -> bool
 fn read_timed<'a, P: KnownPages>(
     alloc: Global,
     schemes: Schemes,
-    words: LineWords<'a>,
+    words: LineWords<'a, '_>,
     pages: &P,
 ) -> Result<Command<'a>, LineFault>
     ensures read { IsRead result (timed_words_of schemes words.entry) }
@@ -141,7 +147,7 @@ fn read_verb<'a, P: KnownPages>(
     schemes: Schemes,
     dialogue: Dialogue,
     moment: u64,
-    words: LineWords<'a>,
+    words: LineWords<'a, '_>,
     pages: &P,
 ) -> Result<Command<'a>, LineFault>
     ensures read { IsRead result (verb_words_of schemes dialogue moment words.entry) }
@@ -158,7 +164,7 @@ fn read_verb<'a, P: KnownPages>(
     if !words.count_is_within(row.least, row.most) {
         return Err(LineFault::Words);
     }
-    read_arguments(alloc, schemes, verb, moment, words.left(), pages)
+    read_arguments(alloc, schemes, verb, moment, words, pages)
 }
 
 fn read_arguments<'a, P: KnownPages>(
@@ -166,11 +172,11 @@ fn read_arguments<'a, P: KnownPages>(
     schemes: Schemes,
     verb: Verb,
     moment: u64,
-    words: Words<'a>,
+    words: LineWords<'a, '_>,
     pages: &P,
 ) -> Result<Command<'a>, LineFault>
-    requires { IsTrue (takes verb (words_left words)) }
-    ensures read { IsRead result (arguments_of schemes verb moment (words_left words.entry)) }
+    requires { IsTrue (takes verb words) }
+    ensures read { IsRead result (arguments_of schemes verb moment words.entry) }
     ensures spare { IfOk result CanBeMade }
 {
     Ok(Command::Call(match verb {
@@ -178,7 +184,12 @@ fn read_arguments<'a, P: KnownPages>(
             let authority = read_authority_alone(alloc, schemes, words)?;
             Call::Begin { authority, moment }
         }
-        Verb::Arrive => return Ok(Command::Arrive(read_arrive(alloc, schemes, moment, words)?)),
+        Verb::Arrive => return Ok(Command::Arrive(read_arrive(
+            alloc,
+            schemes,
+            moment,
+            words.left(),
+        )?)),
         Verb::Ask => {
             let Job { token, url } = read_job_words(alloc, schemes, words)?;
             Call::Ask { token, url, moment }

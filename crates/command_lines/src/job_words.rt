@@ -5,7 +5,7 @@ ghost use Rattle.path_normal.specs.Capacity.{IsRead};
 ghost use Rattle.command_lines.specs.JobWords.{job_of_among, job_of};
 ghost use Rattle.line_text.specs.Words.{words_left};
 
-use crate::calls::read_job_words;
+use crate::calls::read_job_of;
 use crate::command::plain_text;
 use crate::fault::LineFault;
 use crawl_job::Job;
@@ -36,5 +36,8 @@ fn read_words(alloc: Global, schemes: Schemes, words: Words<'_>) -> Result<Job, 
     if !words.count_is_within(2, 2) {
         return Err(LineFault::Words);
     }
-    read_job_words(alloc, schemes, words)
+    let mut words = words;
+    let token = words.first();
+    let url = words.first();
+    read_job_of(alloc, schemes, token, url)
 }

@@ -15,6 +15,7 @@ mod hop_text;
 mod job_words;
 mod known_pages;
 mod line_words;
+mod page_replies;
 mod refusal_text;
 mod reply_text;
 mod reply_words;
@@ -33,6 +34,7 @@ pub use hop_lines::push_hops;
 pub use hop_text::hop_pieces;
 pub use job_words::{read_job, read_job_among};
 pub use known_pages::KnownPages;
+pub use page_replies::{push_done, push_go, push_permit};
 pub use refusal_text::{refusal_pieces, refusal_word};
 pub use reply_text::{
     arrive_pieces, ask_pieces, back_pieces, begin_pieces, bye_pieces, denial_pieces, fault_pieces,

@@ -23,13 +23,14 @@ pub enum Verb {
     Quit,
 }
 
+// The most frequent ones come first.
 const VERBS: [Verb; 15] = [
-    Verb::Begin,
-    Verb::Arrive,
     Verb::Ask,
     Verb::Start,
-    Verb::Back,
     Verb::Done,
+    Verb::Back,
+    Verb::Begin,
+    Verb::Arrive,
     Verb::State,
     Verb::Sweep,
     Verb::Seal,
@@ -114,7 +115,7 @@ impl Verb {
         VERBS
             .iter()
             .copied()
-            .find(|verb| verb.is_in(dialogue) && verb.row().name == name)
+            .find(|verb| verb.row().name == name && verb.is_in(dialogue))
     }
 
     /// Whether the dialogue has the verb.

@@ -11,8 +11,8 @@ use crate::info_text::push_info;
 use authority_cache::StandingAnswer;
 use command_lines::{
     Flow, LineFault, arrive_pieces, ask_pieces, back_pieces, begin_pieces, bye_pieces,
-    denial_pieces, fault_pieces, finish_pieces, go_pieces, push_hops, push_sealed, push_why,
-    refusal_pieces, state_pieces, url_pieces,
+    denial_pieces, fault_pieces, finish_pieces, go_pieces, push_done, push_go, push_hops,
+    push_permit, push_sealed, push_why, refusal_pieces, state_pieces, url_pieces,
 };
 use counted_io::{DeviceFault, Output, Sink};
 use crawl_job::{Outcome, Refusal};
@@ -107,7 +107,27 @@ impl ClientReply {
             (W.failures sink.old) (W.failures sink.new) output.old output.new
             (client_reply_text self.now) result }
     {
-        // A row of pieces takes much stack, which is cleared for each line: there is one.
+        match self {
+            ClientReply::Asked(Ok(number)) => push_permit(*number, output, sink),
+            ClientReply::Started {
+                number,
+                result: Ok(reason),
+            } => push_go(*number, *reason, output, sink),
+            ClientReply::Finished {
+                number,
+                result: Ok(()),
+            } => push_done(*number, output, sink),
+            _ => self.push_other(output, sink),
+        }
+    }
+
+    // Not inlined, and with one row of pieces: the stack that it takes is cleared whenever it is called.
+    #[inline(never)]
+    fn push_other<W: Sink>(&self, output: &mut Output, sink: &mut W) -> Result<(), DeviceFault>
+        ensures { Pushes (W.written sink.old) (W.written sink.new)
+            (W.failures sink.old) (W.failures sink.new) output.old output.new
+            (client_reply_text self.now) result }
+    {
         let line = match self {
             ClientReply::Fetched(outcome) => return push_fetched(outcome, output, sink),
             ClientReply::Sealed(result) => return push_sealed(result, output, sink),
