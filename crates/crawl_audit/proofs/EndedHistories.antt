@@ -1,6 +1,6 @@
 -- What a base left open is ended in turn: each end is legal after those before it, and nothing is open at last.
 -- Used by `recovering`.
-use Rattle.std.proofs.Common.{◌≡◌, ℕ, ◌+◌, ◌≤◌, ◌==◌, Bool, true, false, cond, not, ◌&&◌, ◌||◌, max, List, [], ◌∷◌, ◌++◌, filter, length, map, refl, sym, ap, ◌∙◌, arith, true≢false}
+use Rattle.std.proofs.Common.{◌≡◌, ℕ, ◌≤◌, ◌==◌, Bool, true, false, cond, not, ◌&&◌, ◌||◌, List, [], ◌∷◌, ◌++◌, filter, length, map, refl, sym, ap, ◌∙◌, arith, true≢false}
 use Rattle.std.specs.List.{list_any}
 use Rattle.std.specs.Str.{bytes_eq}
 use Rattle.permit_book.specs.declared.granted_permit.GrantedPermit.{GrantedPermit}
@@ -9,7 +9,7 @@ use Rattle.authority_cache.specs.declared.turn.Turn.{Turn}
 use Rattle.authority_cache.specs.Calls.{one_if}
 use Rattle.authority_cache.proofs.CallerLemmas.{count-cons}
 use Rattle.gate_history.specs.declared.entry.Entry.{Entry}
-use Rattle.gate_history.specs.declared.entry.Entry.TheVariants.{Arrived, Finished, Returned}
+use Rattle.gate_history.specs.declared.entry.Entry.TheVariants.{Finished, Returned}
 use Rattle.gate_history.specs.Base.{Base, IsBase}
 use Rattle.gate_history.specs.History.{History, ◌▸◌, followed_by, from, now}
 use Rattle.gate_history.specs.Outstanding.{running, unspent}

@@ -1,7 +1,6 @@
 -- Lines that end what is open, taken after those that an auditor read.
 -- Used by `ending`.
-use Rattle.std.proofs.Common.{◌≡◌, ℕ, ◌+◌, ◌<◌, ◌≤◌, Bool, true, false, true≢false, codes, All, List, [], ◌∷◌, ◌++◌, Ok, Err, drop, get_or, inl, inr, length, map, take, refl, sym, ap, subst, ◌∙◌, arith, append_assoc, append-nil, length-append}
-use Rattle.std.specs.Prelude.{Result}
+use Rattle.std.proofs.Common.{◌≡◌, ℕ, ◌+◌, ◌<◌, Bool, true≢false, All, List, [], ◌∷◌, ◌++◌, Ok, Err, drop, get_or, inl, inr, length, map, take, refl, sym, ap, subst, ◌∙◌, arith, append_assoc, append-nil, length-append}
 use Rattle.std.proofs.lemmas.List.{drop_more, length-map, map-append, take-append-drop, take_more}
 use Rattle.std.proofs.lemmas.List.Concat.{flat_map-append}
 use Rattle.std.proofs.lemmas.List.Elements.{All-append, All-cons, All-head, All-nil}
@@ -13,7 +12,6 @@ use Rattle.gate_history.specs.declared.entry.Entry.TheVariants.{Arrived, AskDeni
 use Rattle.gate_history.specs.Base.{Base}
 use Rattle.gate_history.specs.History.{History, ◌▸◌, entry_count, followed_by}
 use Rattle.gate_history.specs.Legal.{MayFollow, Rises}
-use Rattle.gate_core.specs.Limits.{greatest_number, most_entries}
 use Rattle.gate_history.proofs.CallerLemmas.{followed_count, followed_push}
 use Rattle.crawl_audit.specs.declared.auditor.Auditor.{Auditor}
 use Rattle.crawl_audit.specs.declared.fault.AuditFault.TheVariants.{BadLine}
@@ -24,13 +22,12 @@ use Rattle.history_text.specs.declared.version.Version.{Version}
 use Rattle.history_text.specs.declared.version.Version.TheVariants.{One, Two}
 use Rattle.crawl_audit.specs.Audit.{AddsLine, Holds, is_entry_line}
 use Rattle.crawl_audit.specs.ChainAudit.{IsAmong}
-use Rattle.crawl_audit.specs.Chains.{most_lines}
 use Rattle.crawl_audit.specs.Ending.{AllFollow, EndsAll, EndsOne, HaveRoom, IsEnding, RefusesEnds, TakesEnds, ends_of, finish, give_back, lines_of, unanswered}
 use Rattle.history_text.specs.Entries.{HasFields, HasLife, IsEntry}
 use Rattle.crawl_audit.specs.Records.{entry_of}
 use Rattle.history_text.specs.Spell.{entry_line}
 use Rattle.history_text.specs.SpellBase.{ended, lines_text}
-use Rattle.crawl_audit.specs.Steps.{Place, Runs, Steps, TakesEntry, among, start}
+use Rattle.crawl_audit.specs.Steps.{Place, Runs, Steps, among, start}
 use Rattle.crawl_audit.proofs.CountedLines.{all_behind, entry_counted}
 use Rattle.crawl_audit.proofs.Spelling.{one_entry}
 use Rattle.crawl_audit.proofs.Stepping.{one_run, run_front}

@@ -1,9 +1,8 @@
 -- The base made from the tables behind a text's whole lines, and behind those that end what was left open.
 -- Used by `recovering`.
-use Rattle.std.proofs.Common.{◌≡◌, ℕ, ◌+◌, ◌<◌, ◌≤◌, All, List, [], ◌∷◌, ◌++◌, Some, Err, filter, length, map, refl, sym, ap, subst, ◌∙◌, arith}
+use Rattle.std.proofs.Common.{◌≡◌, ℕ, All, List, Some, Err, filter, length, map, refl, sym, ap, subst, ◌∙◌}
 use Rattle.std.specs.Prelude.{Bool, Option}
 use Rattle.path_normal.specs.declared.schemes.Schemes.{Schemes}
-use Rattle.authority_cache.specs.Lists.{TellsCache}
 use Rattle.authority_cache.specs.declared.turn.Turn.{Turn}
 use Rattle.gate_history.specs.declared.base.LeftOpen.{LeftOpen}
 use Rattle.gate_history.specs.declared.base.Numbers.{Numbers as BaseNumbers}
@@ -25,8 +24,7 @@ use Rattle.crawl_audit.specs.declared.whole_lines.WholeLines.{WholeLines}
 use Rattle.crawl_audit.specs.Audit.{Holds}
 use Rattle.crawl_audit.specs.Ending.{EndsAll, HasBegun, IsEnding, TakesEnds, ends_of, lines_of}
 use Rattle.crawl_audit.specs.NextBase.{TellsLeft}
-use Rattle.crawl_audit.specs.Recovering.{CanGoOn, HeardCut, IsCut, IsRecovered, LeaveOpen, Recovers}
-use Rattle.history_text.specs.SpellBase.{lines_text}
+use Rattle.crawl_audit.specs.Recovering.{CanGoOn, HeardCut, IsRecovered, LeaveOpen, Recovers}
 use Rattle.crawl_audit.specs.Steps.{Place, among, inside, start}
 use Rattle.crawl_audit.specs.Tables.{TellsAll}
 use Rattle.crawl_audit.proofs.EndedHistories.{IsIdle, ended, none_left}

@@ -1,11 +1,11 @@
 -- What one more line does to the whole lines read of a text, and why such a line is bad.
 -- Used by `WholeLines::take`.
-use Rattle.std.proofs.Common.{◌≡◌, ℕ, ◌+◌, ◌*◌, ◌<◌, ◌≤◌, List, [], ◌∷◌, ◌++◌, Some, Ok, Err, inl, inr, length, refl, sym, ap, subst, ◌∙◌, arith, append_assoc, append-nil, length-append}
-use Rattle.std.specs.Prelude.{All, Contains, Option}
+use Rattle.std.proofs.Common.{◌≡◌, ℕ, ◌+◌, ◌<◌, ◌≤◌, List, [], ◌∷◌, ◌++◌, Some, Ok, Err, inl, inr, length, refl, sym, ap, subst, ◌∙◌, arith, append_assoc, append-nil, length-append}
+use Rattle.std.specs.Prelude.{Contains, Option}
 use Rattle.std.specs.Io.KnownBytes.{Consumes, IsAtEnd, prepend_known}
 use Rattle.std.proofs.KnownBytes.{Consumes-trans, Keeps-refl, prepend_known-end}
-use Rattle.std.proofs.lemmas.List.Elements.{All-nil, Contains-append_left, Contains-append_right, Contains-push}
-use Rattle.counted_io.specs.Lines.{FindsEnd, FindsTooLongTo, HasNoLineFeed, TakesLast, TakesLineTo}
+use Rattle.std.proofs.lemmas.List.Elements.{All-nil, Contains-append_right}
+use Rattle.counted_io.specs.Lines.{FindsEnd, FindsTooLongTo, TakesLast, TakesLineTo}
 use Rattle.counted_io.specs.declared.line_end.LineEnd.TheVariants.{Lf}
 use Rattle.path_normal.specs.declared.schemes.Schemes.{Schemes}
 use Rattle.crawl_audit.specs.declared.auditor.Auditor.{Auditor}
@@ -13,10 +13,9 @@ use Rattle.crawl_audit.specs.declared.fault.AuditFault.{AuditFault}
 use Rattle.crawl_audit.specs.declared.fault.AuditFault.TheVariants.{BadLine, Read, NoMemory}
 use Rattle.crawl_audit.specs.declared.whole_lines.WholeLines.{WholeLines}
 use Rattle.crawl_audit.specs.Audit.{AddsLine, Holds, LeadsNowhere}
-use Rattle.crawl_audit.specs.Chains.{line_limit, most_lines}
-use Rattle.crawl_audit.specs.Recovering.{HeardCut, HeardWhole, IsBadWhole, IsCut, IsWholeFault}
+use Rattle.crawl_audit.specs.Chains.{line_limit}
+use Rattle.crawl_audit.specs.Recovering.{HeardCut, HeardWhole, IsBadWhole, IsWholeFault}
 use Rattle.history_text.specs.SpellBase.{lines_text}
-use Rattle.crawl_audit.specs.Steps.{Place}
 use Rattle.crawl_audit.proofs.Auditing.{bad_line, bad_line_behind, bad_part, bad_part_behind, ended_at, split_known, split_twice, text_more}
 
 longer : (lines : List (List ℕ)) (line : List ℕ) → length (lines_text (lines ++ line ∷ [])) ≡ length (lines_text lines) + length line + 1

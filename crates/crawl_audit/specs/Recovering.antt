@@ -1,9 +1,8 @@
 -- Where a gate continues after a crash: a text's whole lines, the lines that end what was outstanding, and the
 -- result.
 -- See docs/FORMATS.md; RFC 9309, sections 2.3.1 and 2.4.
-use Rattle.std.specs.Prelude.{◌≡◌, ℕ, ◌+◌, ◌*◌, ◌<◌, ◌≤◌, ◌⊎◌, All, Bool, true, false, Contains, List, [], ◌∷◌, ◌++◌, Option, Some, Result, Ok, Err, Vec, length, map}
+use Rattle.std.specs.Prelude.{◌≡◌, ℕ, ◌+◌, ◌*◌, ◌<◌, ◌≤◌, ◌⊎◌, All, Bool, true, false, Contains, List, [], ◌++◌, Option, Some, Result, Ok, Err, Vec, length, map}
 use Rattle.std.specs.declared.alloc.Global.{Global}
-use Rattle.std.specs.Io.KnownBytes.{Consumes}
 use Rattle.counted_io.specs.Device.{one_more}
 use Rattle.counted_io.specs.Lines.{HasNoLineFeed, line_feed}
 use Rattle.path_normal.specs.declared.schemes.Schemes.{Schemes}

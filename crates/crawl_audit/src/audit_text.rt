@@ -48,10 +48,13 @@ pub fn audit_among<R: Source>(
         match auditor.take(alloc, reader) {
             Ok(more) => {
                 if !more {
-                    return Ok(auditor.audited());
+                    return Ok(auditor.into_audited());
                 }
             }
-            Err(fault) => return Err(fault),
+            Err(fault) => {
+                drop(auditor);
+                return Err(fault);
+            }
         }
     }
     unreachable!()

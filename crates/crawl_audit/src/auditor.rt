@@ -252,13 +252,15 @@ impl Auditor {
         Ok(())
     }
 
-    pub(crate) fn audited(&self) -> Audited
-        ensures { result ≡ record { events = self.now.events; starts = self.now.starts } }
+    pub(crate) fn into_audited(self) -> Audited
+        ensures { result ≡ record { events = self.events; starts = self.starts } }
     {
-        Audited {
+        let audited = Audited {
             events: self.events,
             starts: self.starts,
-        }
+        };
+        drop(self);
+        audited
     }
 }
 

@@ -101,6 +101,7 @@ impl FirstBase {
     {
         let row = read_row(alloc, line)?;
         if !self.may_stand(open_state, &row) {
+            drop(row);
             return Err(UnreadLine::NotOne);
         }
         self.load(open_state, row)?;

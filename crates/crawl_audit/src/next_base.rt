@@ -71,7 +71,10 @@ impl NextBase {
                     taken: 0,
                 })
             }
-            None => Err(AllocError),
+            None => {
+                drop(left);
+                Err(AllocError)
+            }
         }
     }
 

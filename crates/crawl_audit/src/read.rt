@@ -40,6 +40,7 @@ pub(crate) fn read_line(alloc: Global, version: Version, line: &[u8]) -> Result<
     if is_spelled(version, &found, line) {
         Ok(found)
     } else {
+        drop(found);
         Err(UnreadLine::NotOne)
     }
 }

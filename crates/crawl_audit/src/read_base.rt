@@ -43,6 +43,7 @@ pub(crate) fn read_row(alloc: Global, line: &[u8]) -> Result<BaseRow, UnreadLine
     if is_spelled(&found, line) {
         Ok(found)
     } else {
+        drop(found);
         Err(UnreadLine::NotOne)
     }
 }

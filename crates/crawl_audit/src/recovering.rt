@@ -96,13 +96,17 @@ pub fn recover_among<R: Source>(
                     return go_on_from(alloc, whole);
                 }
             }
-            Err(fault) => return Err(RecoverFault::from(fault)),
+            Err(fault) => {
+                drop(whole);
+                return Err(RecoverFault::from(fault));
+            }
         }
     }
     unreachable!()
 }
 
-// Ends what is outstanding, and returns the state that follows.
+// Ends what is outstanding, and returns the state that follows. (A value with tables is passed to `drop`:
+// let go in place, each return here would have a proof of its own for each of its parts.)
 fn go_on_from(alloc: Global, whole: WholeLines) -> Result<Recovered, RecoverFault>
     requires { (schemes : Schemes) × ((input : Option (List ℕ)) × HeardCut schemes whole input) }
     ensures recovers { (schemes : Schemes) (input : Option (List ℕ))
@@ -112,7 +116,9 @@ fn go_on_from(alloc: Global, whole: WholeLines) -> Result<Recovered, RecoverFaul
     let octets = whole.octets;
     let mut auditor = whole.into_auditor();
     if !auditor.has_begun() {
-        return Err(RecoverFault::NoEntries(auditor.lines.saturating_add(1)));
+        let line = auditor.lines.saturating_add(1);
+        drop(auditor);
+        return Err(RecoverFault::NoEntries(line));
     }
     match end_open(alloc, &mut auditor) {
         Ok((ending, begun)) => match auditor.open_state.base(alloc) {
@@ -123,9 +129,15 @@ fn go_on_from(alloc: Global, whole: WholeLines) -> Result<Recovered, RecoverFaul
                 base,
                 cache: auditor.into_cache(),
             }),
-            Err(_) => Err(RecoverFault::NoMemory),
+            Err(_) => {
+                drop(auditor);
+                Err(RecoverFault::NoMemory)
+            }
         },
-        Err(fault) => Err(fault),
+        Err(fault) => {
+            drop(auditor);
+            Err(fault)
+        }
     }
 }
 
@@ -164,7 +176,9 @@ impl Auditor {
     fn into_cache(self) -> Cache
         ensures { result ≡ self.open_state.cache }
     {
+        drop(self.stage);
         let open_state = self.open_state;
+        drop(open_state.numbers);
         open_state.cache
     }
 }

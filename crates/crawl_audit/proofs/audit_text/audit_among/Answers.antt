@@ -10,7 +10,7 @@ returns-then-not-more-clause-ok g c =
     let input = g.R.Source.left c.args.reader.now in
     let behind = prepend_known c.take.new.self.reader (g.R.Source.left c.take.new.reader) in
     let all = subst (λ (b : Bool). TakesStep c.args.schemes input c.loop-taken.auditor (Ok b) c.take.new.self behind) c.if-not-more.true (c.in-Ok.ensures.steps c.args.schemes input c.loop-taken.invariant.heard) in
-    λ text is. all_audited c.args.schemes c.take.new.self input behind all _ (ap (λ a. a.events) c.audited.ensures) (ap (λ a. a.starts) c.audited.ensures) text is
+    λ text is. all_audited c.args.schemes c.take.new.self input behind all _ (ap (λ a. a.events) c.into_audited.ensures) (ap (λ a. a.starts) c.into_audited.ensures) text is
 
 pub returns-in-Err-clause-fault : goal.returns-in-Err-clause-fault
 returns-in-Err-clause-fault g c = c.in-Err.ensures.steps c.args.schemes (g.R.Source.left c.args.reader.now) c.loop-taken.invariant.heard

@@ -1,16 +1,15 @@
 -- What is open behind the whole lines is ended.
 -- By `RecoveredBases`.
-use Rattle.std.proofs.Common.{◌≡◌, ◌↔◌, ◌⊎◌, ℕ, ◌+◌, Bool, true, false, List, Option, Some, Ok, Err, Vec, Global, IsTrue, arith, inl, inr, length, map, subst, sym, refl, true≢false, ◌∙◌}
+use Rattle.std.proofs.Common.{◌≡◌, ◌↔◌, ℕ, Bool, true, List, Option, Err, IsTrue, arith, inl, inr, map, subst, sym, refl, true≢false, ◌∙◌}
 use Rattle.path_normal.specs.declared.schemes.Schemes.{Schemes}
 use Rattle.gate_history.specs.Base.{Base}
 use Rattle.crawl_audit.specs.declared.auditor.Auditor.{Auditor}
 use Rattle.crawl_audit.specs.declared.recover_fault.RecoverFault.{RecoverFault}
-use Rattle.crawl_audit.specs.declared.recover_fault.RecoverFault.TheVariants as faults
 use Rattle.crawl_audit.specs.declared.recovering.Recovered.{Recovered}
 use Rattle.crawl_audit.specs.declared.whole_lines.WholeLines.{WholeLines}
 use Rattle.crawl_audit.specs.Audit.{Holds, StandsAt}
 use Rattle.crawl_audit.specs.Ending.{HasBegun}
-use Rattle.crawl_audit.specs.Recovering.{CanGoOn, EndsLeft, EndsOpen, HeardCut, IsLeft, IsRecovered, Recovers}
+use Rattle.crawl_audit.specs.Recovering.{EndsLeft, EndsOpen, HeardCut, IsLeft, Recovers}
 use Rattle.crawl_audit.specs.Steps.{Place}
 use Rattle.crawl_audit.proofs.RecoveredBases.{IsBaseOf, Known, Results, Took, known_after, known_before, refuses, results}
 use Rattle.crawl_audit.proofs.recovering.go_on_from.Goals as goal
@@ -93,5 +92,5 @@ returns-then-not-has_begun-clause-recovers c = λ schemes input cut text is.
       place = cut.place;
       runs = cut.holds.runs;
       not_begun = λ begun. true≢false (sym ((c.has_begun.ensures cut.place at.stands).1 begun) ∙ c.if-not-has_begun.true);
-      line_is = omega (arith, c.saturating_add.ensures, few, lines);
+      line_is = omega (arith, c.saturating_add-line.ensures, few, lines);
     }

@@ -4,7 +4,7 @@ use Rattle.std.specs.Prelude.{IfOk, IfErr}
 use Rattle.std.specs.Io.KnownBytes.{prepend_known}
 use Rattle.path_normal.specs.declared.schemes.Schemes.{Schemes}
 use Rattle.crawl_audit.specs.Audit.{failures_after_audit}
-use Rattle.crawl_audit.specs.Recovering.{HeardCut, IsRecoverFault, IsRecovered, IsWholeFault, Recovers, TakesWhole, failures_after_recovery, fault_read}
+use Rattle.crawl_audit.specs.Recovering.{IsRecoverFault, IsRecovered, IsWholeFault, Recovers, TakesWhole, failures_after_recovery, fault_read}
 use Rattle.crawl_audit.specs.declared.fault.AuditFault.{AuditFault}
 use Rattle.crawl_audit.specs.declared.fault.AuditFault.TheVariants as audit_faults
 use Rattle.crawl_audit.specs.declared.recover_fault.RecoverFault.{RecoverFault}

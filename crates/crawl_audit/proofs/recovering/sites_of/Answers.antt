@@ -1,6 +1,6 @@
 -- One more site was added.
 use Rattle.std.proofs.Common.{◌++◌, ◌∷◌, [], List, ℕ, ap, get_or, map, sym, take, ◌∙◌}
-use Rattle.std.proofs.lemmas.List.{map-append, take_all, take_more}
+use Rattle.std.proofs.lemmas.List.{map-append, take_more}
 use Rattle.authority_cache.specs.declared.turn.Turn.{Turn}
 use Rattle.crawl_audit.proofs.recovering.sites_of.Goals as goal
 

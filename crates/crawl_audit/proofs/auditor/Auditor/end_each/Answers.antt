@@ -1,5 +1,5 @@
 -- Each line follows those before it.
-use Rattle.std.proofs.Common.{◌+◌, ◌++◌, Err, ◌∷◌, [], All, List, ap, map, refl, subst, sym, take, drop, length, ◌∙◌, arith}
+use Rattle.std.proofs.Common.{◌+◌, ◌++◌, Err, ◌∷◌, [], All, List, ap, map, subst, sym, take, drop, length, ◌∙◌}
 use Rattle.std.proofs.lemmas.List.{take_all}
 use Rattle.std.proofs.lemmas.List.Elements.{All-head}
 use Rattle.gate_history.specs.declared.entry.Entry.{Entry}

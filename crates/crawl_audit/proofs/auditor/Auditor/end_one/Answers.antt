@@ -1,5 +1,5 @@
 -- The line is the entry's, and leads to the place after it.
-use Rattle.std.proofs.Common.{◌+◌, List, ℕ, Err, Ok, ap, refl, subst, ◌∙◌}
+use Rattle.std.proofs.Common.{List, ℕ, Err, Ok, ap, refl, subst, ◌∙◌}
 use Rattle.crawl_audit.specs.declared.fault.AuditFault.TheVariants.{BadLine}
 use Rattle.crawl_audit.specs.Audit.{AddsLine}
 use Rattle.crawl_audit.specs.Records.{entry_of}
