@@ -29,6 +29,13 @@ SetsBit-word words i bit word within here others j = elim (eqb_tells j i) [
   ])
 ]
 
+-- a bit that is so already need not be written
+pub SetsBit-kept : (words : List ℕ) (i bit : ℕ) → bit_of words i ≡ bit → SetsBit words i bit words
+SetsBit-kept words i bit here j = elim (eqb_tells j i) [
+  | inl e ↦ rw (e.0, e.1) here
+  | inr d ↦ rw d.0 refl
+]
+
 pub KeepsOthers-word : (words : List ℕ) (place word : ℕ) → KeepsOthers words place (set words place word)
 KeepsOthers-word words place word k apart = get_or-set_other words place k word 0 apart
 

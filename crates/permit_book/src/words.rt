@@ -3,13 +3,17 @@
 ghost use Rattle.std.specs.Prelude.{◌≡◌, ◌≢◌, ℕ, ◌/◌, ◌<◌, ◌≤◌, length, slice_index};
 ghost use Rattle.permit_book.specs.Bits.{bit_of, KeepsEmpty, KeepsOthers, SetsBit, SumsUp};
 
-/// Sets bit `i`.
+/// Sets bit `i`. A word that has it is not written, so that other processors keep what they have of it.
 pub fn set_bit(words: &mut [u64], i: u64)
     requires { i / 64 < length words.old }
     ensures bits { SetsBit words.old i 1 words.new }
     ensures others { KeepsOthers words.old (i / 64) words.new }
 {
-    words[(i / 64) as usize] |= 1 << (i % 64);
+    let word = words[(i / 64) as usize];
+    let with_bit = word | 1 << (i % 64);
+    if with_bit != word {
+        words[(i / 64) as usize] = with_bit;
+    }
 }
 
 /// Clears bit `i`.
