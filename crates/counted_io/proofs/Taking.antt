@@ -1,13 +1,15 @@
 -- Octets that move from one place to another.
 -- Used by `LineReader`, `FailAt` and `write_all`.
-use Rattle.std.proofs.Common.{◌≡◌, ◌≢◌, length-append, ℕ, suc, ◌+◌, ◌-◌, ◌<◌, ◌≤◌, List, [], ◌∷◌, ◌++◌, None, Some, refl, sym, ap, subst, ◌∙◌, inl, append_assoc, append-nil, length, take, drop, min, take-append-drop, arith, length-drop, drop-cons, true, false}
+use Rattle.std.proofs.Common.{◌≡◌, ◌≢◌, length-append, ℕ, suc, ◌+◌, ◌-◌, ◌<◌, ◌≤◌, List, [], ◌∷◌, ◌++◌, None, Some, refl, sym, ap, subst, ◌∙◌, inl, append_assoc, append-nil, length, take, drop, min, take-append-drop, arith, length-drop, drop-cons, true, false, Bool, nat_lt, slice_index_or}
 use Rattle.std.specs.Prelude.{Option, Contains, slice_range, slice_index, if◌then◌else◌, ◌==◌}
-use Rattle.std.proofs.lemmas.List.{drop-take, drop-drop, length-take, length-take-le}
+use Rattle.std.proofs.lemmas.Bool.Decides.{nat_tests}
+use Rattle.std.proofs.lemmas.Grind.{get_or_default_zero}
+use Rattle.std.proofs.lemmas.List.{drop-take, drop-drop, get_or-drop, get_or-take, length-take, length-take-le}
 use Rattle.std.proofs.lemmas.List.Elements.{All-append}
 use Rattle.std.proofs.Math.Seq.{take-add, take-append_seam}
 use Rattle.std.specs.Io.KnownBytes.{Appends, Consumes, prepend_known}
 use Rattle.std.proofs.KnownBytes.{Appends-trans, Consumes-trans}
-use Rattle.counted_io.specs.Lines.{HasNoLineFeed, without_cr, without_end, MovesOpen, MovesLine, MovesTooLong, TakesLineTo, FindsTooLongTo}
+use Rattle.counted_io.specs.Lines.{HasNoLineFeed, LinesEnd, without_cr, without_end, MovesOpen, MovesLine, MovesTooLong, TakesLineTo, FindsTooLongTo}
 use Rattle.counted_io.specs.declared.line_end.LineEnd.{LineEnd}
 use Rattle.counted_io.specs.declared.line_end.LineEnd.TheVariants as ends
 
@@ -110,3 +112,28 @@ part_taken limit all left old new line added p clear m =
 
 pub feed_absurd : (octets : List ℕ) → HasNoLineFeed octets → Contains octets 10 → ⊥
 feed_absurd octets clear found = clear found.0 10 found.1 found.2
+
+-- the octet at a place of a range
+at_range : (xs now : List ℕ) (start end i : ℕ) → now ≡ slice_range xs start end → end ≤ length xs → i < length now → (start + i < end) × (slice_index_or now i 10 ≡ slice_index xs (start + i))
+at_range xs now start end i e bound within =
+    let len : length now ≡ length (take (end - start) (drop start xs)) = ap length e in
+    let below : i < end - start = omega (arith, len, length-take (end - start) (drop start xs)) in
+    let same : slice_index_or now i 10 ≡ slice_index_or xs (start + i) 10 = ap (λ l. slice_index_or l i 10) e ∙ get_or-take (end - start) (drop start xs) i 10 below ∙ get_or-drop start xs i 10 in
+    (omega arith, same ∙ get_or_default_zero xs (start + i) 10 (omega arith))
+
+pub feed_within : (xs now : List ℕ) (start end place : ℕ) → now ≡ slice_range xs start end → end ≤ length xs → LinesEnd xs end place → start < place → Contains now 10
+feed_within xs now start end place e bound at before =
+    let len : length now ≡ end - start = ap length e ∙ length-take-le (end - start) (drop start xs) (omega (arith, length-drop start xs)) in
+    let within : place - 1 - start < length now = omega (arith, at.within) in
+    let place_is : start + (place - 1 - start) ≡ place - 1 = omega arith in
+    (place - 1 - start, within, (at_range xs now start end (place - 1 - start) e bound within).1 ∙ ap (slice_index xs) place_is ∙ at.feed (omega arith))
+
+pub feed_before : (xs now : List ℕ) (start end place : ℕ) → now ≡ slice_range xs start end → end ≤ length xs → LinesEnd xs end place → Contains now 10 → nat_lt start place ≡ true
+feed_before xs now start end place e bound at found = by (nat_lt start place) refl
+  where
+    by : (b : Bool) → nat_lt start place ≡ b → b ≡ true
+    by true is = refl
+    by false is =
+        let later : place ≤ start = grind (arith, nat_tests, is) in
+        let here = at_range xs now start end found.0 e bound found.1 in
+        absurd (at.none (start + found.0) (omega arith) here.0 (sym here.1 ∙ found.2))

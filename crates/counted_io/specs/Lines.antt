@@ -34,6 +34,12 @@ abbrev pub without_end : LineEnd → List ℕ → List ℕ
 without_end ends.Lf raw = raw
 without_end ends.LfOrCrLf raw = without_cr raw
 
+-- the place behind the last line feed of the first octets, this many, or 0 if there is none
+pub record LinesEnd (octets : List ℕ) (end place : ℕ) : Type 0 where
+  pub within : place ≤ end
+  pub feed : 0 < place → slice_index octets (place - 1) ≡ line_feed
+  pub none : (k : ℕ) → place ≤ k → k < end → slice_index octets k ≢ line_feed
+
 -- the buffer is empty, and the source at its end
 pub record IsDrained (pending : List ℕ) (left : Option (List ℕ)) : Type 0 where
   pub empty : pending ≡ []

@@ -4,13 +4,14 @@ ghost use Rattle.std.specs.Prelude.{◌≡◌, ◌<◌, ◌≤◌, ◌+◌, ◌�
 ghost use Rattle.std.specs.Io.KnownBytes.{Consumes, IsAtEnd, prepend_known};
 ghost use Rattle.counted_io.specs.Device.{failures_after};
 ghost use Rattle.counted_io.specs.Limits.{line_buffer};
-ghost use Rattle.counted_io.specs.Lines.{IsDrained, Moves, Takes, TakesPart, TakesTo, failures_after_line};
+ghost use Rattle.counted_io.specs.Lines.{IsDrained, LinesEnd, Moves, Takes, TakesPart, TakesTo, failures_after_line};
 
 use crate::fault::DeviceFault;
 use crate::line_end::{LineEnd, drop_end};
 use crate::line_part::{LinePart, part_len};
 use crate::next_line::{NextLine, ReadLineFault};
 use crate::source::Source;
+use memchr::memrchr;
 use std::alloc::{AllocError, Global};
 use std::marker::Model;
 
@@ -23,18 +24,21 @@ pub struct LineReader {
     buffer: Vec<u8>,
     start: usize,
     end: usize,
+    // Behind the last line feed, or 0 if there is none.
+    lines_end: usize,
 }
 
 impl Model for LineReader {
     ghost use Rattle.std.specs.Prelude.{◌≡◌, ◌≤◌, ℕ, List, slice_range, vec_len};
     ghost use Rattle.counted_io.specs.declared.line_reader.TheConstants.{LINE_BUFFER};
+    ghost use Rattle.counted_io.specs.Lines.{LinesEnd};
 
     ghost Value = { List ℕ };
 
     ghost view = { λ r. slice_range r.buffer.items r.start r.end };
 
     ghost invariant = { λ r. (r.start ≤ r.end) × (r.end ≤ vec_len r.buffer)
-        × (vec_len r.buffer ≡ LINE_BUFFER) };
+        × (vec_len r.buffer ≡ LINE_BUFFER) × LinesEnd r.buffer.items r.end r.lines_end };
 }
 
 impl LineReader {
@@ -48,15 +52,16 @@ impl LineReader {
             buffer,
             start: 0,
             end: 0,
+            lines_end: 0,
         })
     }
 
-    /// Whether the buffer has a whole line, so that `next_line` reads no source.
+    /// Whether the buffer has a whole line, so that `next_line` reads no source. It searches nothing.
     pub fn has_line(&self) -> bool
         ensures { IsTrue result ↔ Contains self.now 10 }
     {
-        let pending = self.pending();
-        part_len(pending) < pending.len()
+        let _octets = self.buffer.as_slice();
+        self.start < self.lines_end
     }
 
     /// `next_line_to` for lines that end with LF or CR LF.
@@ -140,7 +145,10 @@ impl LineReader {
     {
         self.start = 0;
         self.end = 0;
-        self.end = source.read(self.buffer.as_mut_slice())?;
+        self.lines_end = 0;
+        let end = source.read(self.buffer.as_mut_slice())?;
+        self.lines_end = lines_end(&self.buffer.as_slice()[..end]);
+        self.end = end;
         Ok(())
     }
 
@@ -189,5 +197,15 @@ impl LineReader {
         }
         self.skip(1);
         Ok(LinePart::Whole)
+    }
+}
+
+// The place behind the last line feed, or 0.
+fn lines_end(octets: &[u8]) -> usize
+    ensures { LinesEnd octets.now (length octets.now) result }
+{
+    match memrchr(b'\n', octets) {
+        Some(place) => place + 1,
+        None => 0,
     }
 }
