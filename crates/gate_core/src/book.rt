@@ -22,17 +22,19 @@ use std::marker::Model;
 pub struct Book {
     pub(crate) limits: Limits,
     pub(crate) base: Base,
+    // Copies of the turns' authority names.
+    pub(crate) names: TurnNames,
+    // The valid answers and the turns in flight.
+    pub(crate) cache: Cache,
+    // What nearly every call changes stands together, since another processor has to fetch it anew: the
+    // outstanding permits, also of each authority, the entries, and the gate's moment with the begins and started
+    // fetches of the history.
+    pub(crate) places: PlaceCounts,
+    pub(crate) permits: Permits,
     pub(crate) entries: Vec<Entry>,
-    // The gate's moment, and the begins and started fetches of the history.
     pub(crate) clock: u64,
     pub(crate) begins: u64,
     pub(crate) starts: u64,
-    // The valid answers, the turns in flight, and the outstanding permits.
-    pub(crate) cache: Cache,
-    pub(crate) permits: Permits,
-    // Copies of the turns' authority names, and the outstanding permits of each authority.
-    pub(crate) names: TurnNames,
-    pub(crate) places: PlaceCounts,
 }
 
 impl Model for Book {
