@@ -10,7 +10,7 @@ ghost use Rattle.command_lines.specs.Arguments.{token_word};
 use crate::fault::LineFault;
 use line_text::number_of;
 use path_normal::{Authority, PageUrl, Schemes};
-use robots_text::Token;
+use robots_text::{LastToken, Token};
 use std::alloc::Global;
 
 /// Reads a number.
@@ -20,11 +20,11 @@ pub fn read_number(word: &str) -> Result<u64, LineFault>
     number_of(word).ok_or(LineFault::Number)
 }
 
-/// Reads a product token.
-pub fn read_token(alloc: Global, word: &str) -> Result<Token, LineFault>
+/// Reads a product token, which usually is the last one.
+pub fn read_token(alloc: Global, word: &str, last: &LastToken) -> Result<Token, LineFault>
     ensures { IsRead result (token_word word.now) }
 {
-    let token = Token::new(alloc, word.as_bytes())?;
+    let token = last.read(alloc, word.as_bytes())?;
     Ok(token)
 }
 

@@ -16,6 +16,7 @@ use crate::answerer::{Answerer, Flow};
 use crate::arrival::{Arrival, decide};
 use crate::command::{Command, read_command_knowing};
 use crate::fault::LineFault;
+use crate::known_pages::Known;
 use crate::page_replies::{push_done, push_go, push_permit};
 use crate::reply_text::{bye_pieces, fault_pieces, reply_pieces, state_pieces};
 use crate::seal_text::push_sealed;
@@ -26,12 +27,14 @@ use counted_io::{DeviceFault, Output, Sink, Source};
 use gate_core::{Book, Call, Reply, State};
 use line_text::MAX_LONG_LINE;
 use path_normal::{Authority, Schemes};
+use robots_text::LastToken;
 use std::alloc::Global;
 
 /// A lent book, which answers lines by their calls in these schemes.
 #[derive(Drop)]
 struct BookLines {
     schemes: Schemes,
+    last: LastToken,
 }
 
 impl Answerer<Book> for BookLines {
@@ -47,7 +50,11 @@ impl Answerer<Book> for BookLines {
         output: &mut Output,
         sink: &mut W,
     ) -> Result<Flow, DeviceFault> {
-        match read_command_knowing(alloc, self.schemes, Dialogue::Replay, line, &*book) {
+        let known = Known {
+            pages: &*book,
+            last: &self.last,
+        };
+        match read_command_knowing(alloc, self.schemes, Dialogue::Replay, line, &known) {
             Ok(Command::Call(call)) => {
                 answer_call(book, call, output, sink)?;
                 Ok(Flow::Goes)
@@ -137,7 +144,10 @@ pub fn replay_among<R: Source, W: Sink>(
         alloc,
         reader,
         writer,
-        &BookLines { schemes },
+        &BookLines {
+            schemes,
+            last: LastToken::none(),
+        },
         book,
         MAX_LONG_LINE,
         MAX_LINES,

@@ -10,7 +10,7 @@ ghost use Rattle.line_text.specs.Words.{words_left};
 use crate::arguments::{read_authority, read_known_page, read_number, read_page, read_token};
 use crate::arrival::Arrival;
 use crate::fault::LineFault;
-use crate::known_pages::KnownPages;
+use crate::known_pages::{Known, KnownPages};
 use crate::line_words::LineWords;
 use crate::reply_words::ReplyWords;
 use crate::verbs::Verb;
@@ -20,6 +20,7 @@ use gate_core::Call;
 use line_text::Words;
 use path_normal::{Authority, PageUrl, Schemes};
 use permit_book::PermitNo;
+use robots_text::LastToken;
 use std::alloc::Global;
 
 /// Reads the argument of `BEGIN`, `STATE` and `REFRESH`: `<authority>`.
@@ -66,6 +67,7 @@ pub fn read_job_words(
     alloc: Global,
     schemes: Schemes,
     words: LineWords<'_, '_>,
+    last: &LastToken,
 ) -> Result<Job, LineFault>
     requires { IsTrue (takes Verb.Fetch words) }
     ensures { IsRead result (job_words_of schemes words.entry) }
@@ -73,7 +75,7 @@ pub fn read_job_words(
     let mut words = words;
     let token = words.first();
     let url = words.first();
-    read_job_of(alloc, schemes, token, url)
+    read_job_of(alloc, schemes, token, url, last)
 }
 
 /// Reads the words `<token> <url>`.
@@ -82,10 +84,11 @@ pub fn read_job_of(
     schemes: Schemes,
     token: &str,
     url: &str,
+    last: &LastToken,
 ) -> Result<Job, LineFault>
     ensures { IsRead result (job_words_of schemes (token.now ∷ url.now ∷ [])) }
 {
-    let token = read_token(alloc, token)?;
+    let token = read_token(alloc, token, last)?;
     let url = read_page(alloc, schemes, url)?;
     Ok(Job { token, url })
 }
@@ -96,7 +99,7 @@ pub fn read_start<P: KnownPages>(
     schemes: Schemes,
     moment: u64,
     words: LineWords<'_, '_>,
-    pages: &P,
+    known: &Known<'_, P>,
 ) -> Result<Call, LineFault>
     requires { IsTrue (takes Verb.Start words) }
     ensures read { IsRead result (start_of schemes moment words.entry) }
@@ -107,8 +110,8 @@ pub fn read_start<P: KnownPages>(
     let number = PermitNo::new(read_number(number)?);
     let token = words.first();
     let url = words.first();
-    let token = read_token(alloc, token)?;
-    let url = read_known_page(alloc, schemes, url, pages.page_of(number))?;
+    let token = read_token(alloc, token, known.last)?;
+    let url = read_known_page(alloc, schemes, url, known.pages.page_of(number))?;
     Ok(Call::Start {
         number,
         token,

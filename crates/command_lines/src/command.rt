@@ -12,13 +12,14 @@ use crate::calls::{
     read_start,
 };
 use crate::fault::LineFault;
-use crate::known_pages::{KnownPages, NoPages};
+use crate::known_pages::{Known, KnownPages, NoPages};
 use crate::line_words::{FRONT, LineWords};
 use crate::verbs::{Dialogue, Verb};
 use crawl_job::Job;
 use gate_core::Call;
 use line_text::number_of;
 use path_normal::{Authority, PageUrl, Schemes};
+use robots_text::LastToken;
 use std::alloc::Global;
 
 /// What a command line asks for.
@@ -68,16 +69,20 @@ pub fn read_command_among(
     ensures read { IsRead result (command_of_among schemes dialogue line.now) }
     ensures spare { IfOk result CanBeMade }
 {
-    read_command_knowing(alloc, schemes, dialogue, line, &NoPages)
+    let known = Known {
+        pages: &NoPages,
+        last: &LastToken::none(),
+    };
+    read_command_knowing(alloc, schemes, dialogue, line, &known)
 }
 
-/// Like `read_command_among`, with the known pages.
+/// Like `read_command_among`, with what is known of pages and tokens.
 pub fn read_command_knowing<'a, P: KnownPages>(
     alloc: Global,
     schemes: Schemes,
     dialogue: Dialogue,
     line: &'a [u8],
-    pages: &P,
+    known: &Known<'_, P>,
 ) -> Result<Command<'a>, LineFault>
     ensures read { IsRead result (command_of_among schemes dialogue line.now) }
     ensures spare { IfOk result CanBeMade }
@@ -88,9 +93,9 @@ pub fn read_command_knowing<'a, P: KnownPages>(
         Err(fault) => return Err(fault),
     };
     match dialogue {
-        Dialogue::Replay => read_timed(alloc, schemes, words, pages),
+        Dialogue::Replay => read_timed(alloc, schemes, words, known),
         Dialogue::Client { moment, .. } | Dialogue::Overseer { moment } => {
-            read_verb(alloc, schemes, dialogue, moment, words, pages)
+            read_verb(alloc, schemes, dialogue, moment, words, known)
         }
     }
 }
@@ -127,7 +132,7 @@ fn read_timed<'a, P: KnownPages>(
     alloc: Global,
     schemes: Schemes,
     words: LineWords<'a, '_>,
-    pages: &P,
+    known: &Known<'_, P>,
 ) -> Result<Command<'a>, LineFault>
     ensures read { IsRead result (timed_words_of schemes words.entry) }
     ensures spare { IfOk result CanBeMade }
@@ -139,7 +144,7 @@ fn read_timed<'a, P: KnownPages>(
     let Some(moment) = number_of(first) else {
         return Err(LineFault::Moment);
     };
-    read_verb(alloc, schemes, Dialogue::Replay, moment, words, pages)
+    read_verb(alloc, schemes, Dialogue::Replay, moment, words, known)
 }
 
 fn read_verb<'a, P: KnownPages>(
@@ -148,7 +153,7 @@ fn read_verb<'a, P: KnownPages>(
     dialogue: Dialogue,
     moment: u64,
     words: LineWords<'a, '_>,
-    pages: &P,
+    known: &Known<'_, P>,
 ) -> Result<Command<'a>, LineFault>
     ensures read { IsRead result (verb_words_of schemes dialogue moment words.entry) }
     ensures spare { IfOk result CanBeMade }
@@ -164,7 +169,7 @@ fn read_verb<'a, P: KnownPages>(
     if !words.count_is_within(row.least, row.most) {
         return Err(LineFault::Words);
     }
-    read_arguments(alloc, schemes, verb, moment, words, pages)
+    read_arguments(alloc, schemes, verb, moment, words, known)
 }
 
 fn read_arguments<'a, P: KnownPages>(
@@ -173,7 +178,7 @@ fn read_arguments<'a, P: KnownPages>(
     verb: Verb,
     moment: u64,
     words: LineWords<'a, '_>,
-    pages: &P,
+    known: &Known<'_, P>,
 ) -> Result<Command<'a>, LineFault>
     requires { IsTrue (takes verb words) }
     ensures read { IsRead result (arguments_of schemes verb moment words.entry) }
@@ -191,10 +196,10 @@ fn read_arguments<'a, P: KnownPages>(
             words.left(),
         )?)),
         Verb::Ask => {
-            let Job { token, url } = read_job_words(alloc, schemes, words)?;
+            let Job { token, url } = read_job_words(alloc, schemes, words, known.last)?;
             Call::Ask { token, url, moment }
         }
-        Verb::Start => read_start(alloc, schemes, moment, words, pages)?,
+        Verb::Start => read_start(alloc, schemes, moment, words, known)?,
         Verb::Back => {
             let number = read_permit_alone(words)?;
             Call::Back { number }
@@ -213,7 +218,9 @@ fn read_arguments<'a, P: KnownPages>(
             let authority = read_authority_alone(alloc, schemes, words)?;
             return Ok(Command::Refresh { authority });
         }
-        Verb::Fetch => return Ok(Command::Fetch(read_job_words(alloc, schemes, words)?)),
+        Verb::Fetch => return Ok(Command::Fetch(read_job_words(
+            alloc, schemes, words, known.last,
+        )?)),
         Verb::Url => return Ok(Command::Url(read_page_alone(alloc, schemes, words)?)),
         Verb::Info => return Ok(Command::Info),
         Verb::Why => {

@@ -11,6 +11,7 @@ use crate::fault::LineFault;
 use crawl_job::Job;
 use line_text::Words;
 use path_normal::Schemes;
+use robots_text::LastToken;
 use std::alloc::Global;
 
 /// Reads a line `<token> <url>`, without its line end, with an `http` URL.
@@ -39,5 +40,5 @@ fn read_words(alloc: Global, schemes: Schemes, words: Words<'_>) -> Result<Job, 
     let mut words = words;
     let token = words.first();
     let url = words.first();
-    read_job_of(alloc, schemes, token, url)
+    read_job_of(alloc, schemes, token, url, &LastToken::none())
 }

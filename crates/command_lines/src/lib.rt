@@ -33,7 +33,7 @@ pub use fault::LineFault;
 pub use hop_lines::push_hops;
 pub use hop_text::hop_pieces;
 pub use job_words::{read_job, read_job_among};
-pub use known_pages::KnownPages;
+pub use known_pages::{Known, KnownPages};
 pub use page_replies::{push_done, push_go, push_permit};
 pub use refusal_text::{refusal_pieces, refusal_word};
 pub use reply_text::{

@@ -9,12 +9,13 @@ use crate::client_reply::ClientReply;
 use crate::first_line::FirstLine;
 use crate::kept_pages::KeptPages;
 use crate::numbered_clock::{FetchClock, NumberedClock, next_reading};
-use command_lines::{Answerer, Command, Flow, LineFault, Speaker, read_command_knowing};
+use command_lines::{Answerer, Command, Flow, Known, LineFault, Speaker, read_command_knowing};
 use counted_io::{DeviceFault, Output, Sink};
 use crawl_job::Job;
 use gate_core::Call;
 use keepers::Keeper;
 use path_normal::Authority;
+use robots_text::LastToken;
 use std::alloc::Global;
 
 /// A client's session between two lines: a lent keeper, and the clock's next reading.
@@ -30,6 +31,7 @@ pub(crate) struct ClientLines<'c, C: NumberedClock> {
     pub(crate) speaker: Speaker,
     pub(crate) clock: &'c C,
     pub(crate) first: FirstLine,
+    pub(crate) last: LastToken,
 }
 
 impl<'k, K: Keeper, C: NumberedClock> Answerer<Client<'k, K>> for ClientLines<'_, C> {
@@ -56,6 +58,7 @@ impl<'k, K: Keeper, C: NumberedClock> Answerer<Client<'k, K>> for ClientLines<'_
             client.number,
             client.keeper,
             line,
+            &self.last,
         );
         let flow = flow_behind(self.first, client.number, line, &told);
         client.number = next_reading(next_reading(client.number));
@@ -83,6 +86,7 @@ fn told_of<K: Keeper, C: NumberedClock>(
     number: u64,
     keeper: &mut K,
     line: &[u8],
+    last: &LastToken,
 ) -> ClientReply
     ensures { DoesRequest K.deals speaker
         (C.reads clock.now) number keeper.old line.now result keeper.new }
@@ -93,7 +97,11 @@ fn told_of<K: Keeper, C: NumberedClock>(
         number: next_reading(number),
     };
     let pages = KeptPages { keeper: &*keeper };
-    match read_command_knowing(alloc, pages.keeper.schemes(), dialogue, line, &pages) {
+    let known = Known {
+        pages: &pages,
+        last,
+    };
+    match read_command_knowing(alloc, pages.keeper.schemes(), dialogue, line, &known) {
         Ok(Command::Call(call)) => told_of_call(keeper, call),
         Ok(Command::State { authority, moment }) => {
             let state = keeper.state(&authority, moment);

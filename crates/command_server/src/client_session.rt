@@ -13,6 +13,7 @@ use crate::numbered_clock::NumberedClock;
 use command_lines::{MAX_LINES, SessionFault, Speaker, run_session};
 use counted_io::{Sink, Source};
 use keepers::Keeper;
+use robots_text::LastToken;
 use std::alloc::Global;
 
 /// The most octets of a client's line, without its end.
@@ -106,6 +107,7 @@ fn serve_lines<R: Source, W: Sink, K: Keeper, C: NumberedClock>(
         speaker,
         clock,
         first,
+        last: LastToken::none(),
     };
     let mut client = Client { keeper, number: 0 };
     let end = run_lines(alloc, reader, writer, &lines, &mut client);

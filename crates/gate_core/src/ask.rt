@@ -30,7 +30,7 @@ impl Book {
             return Err(AskRefusal::LogFull);
         }
         self.cache.make_index(url.authority());
-        let judged = Judged::new(*self.entries.allocator(), token, url)?;
+        let judged = Judged::new(token, url)?;
         self.ask_judged(judged, moment)
     }
 

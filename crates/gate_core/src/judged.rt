@@ -6,7 +6,7 @@ use gate_history::{FetchText, Ruling};
 use path_normal::PageUrl;
 use robots_text::Token;
 use robots_verdict::Policy;
-use std::alloc::{AllocError, Global};
+use std::alloc::AllocError;
 use std::marker::Model;
 use std::sync::Arc;
 
@@ -39,11 +39,11 @@ impl Model for Judged {
 }
 
 impl Judged {
-    /// An ask without verdict.
-    pub fn new(alloc: Global, token: Token, url: PageUrl) -> Result<Judged, AllocError>
+    /// An ask without verdict. Takes no memory: its entry shares the texts.
+    pub fn new(token: Token, url: PageUrl) -> Result<Judged, AllocError>
         ensures { IfOk result (λ judged. judged ≡ record { token = token; url = url }) }
     {
-        let fetch = FetchText::of(alloc, &token, &url)?;
+        let fetch = FetchText::of(&token, &url)?;
         Ok(Judged {
             token,
             url,

@@ -9,45 +9,36 @@ ghost use Rattle.robots_text.specs.Token.{token_of};
 
 use path_normal::PageUrl;
 use robots_text::Token;
-use std::alloc::{AllocError, Global};
+use std::alloc::AllocError;
 use std::marker::Model;
 
-/// One fetch's token and URL, in one allocation, since a history has many. A clause sees it as the fetch.
+/// One fetch's token and URL. Its copies, the permit's and the mark's share their texts, since a history has
+/// many. A clause sees it as the fetch.
 #[derive(Drop)]
 pub struct FetchText {
-    octets: Vec<u8>,
-    // Where the URL begins.
-    url_start: usize,
+    token: Token,
+    url: PageUrl,
 }
 
 impl Model for FetchText {
-    ghost use Rattle.std.specs.Prelude.{drop, take};
     ghost use Rattle.permit_book.specs.declared.out.Fetch.{Fetch};
-    ghost use Rattle.gate_history.specs.Kept.{IsFetchText};
 
     ghost Value = { Fetch };
 
     ghost view = { λ text. record {
-      token = take text.url_start text.octets.items;
-      url = drop text.url_start text.octets.items;
+      token = text.token;
+      url = text.url;
     } };
-
-    ghost invariant = { λ text. IsFetchText text.octets.items text.url_start };
 }
 
 impl FetchText {
-    /// The texts of this URL and token.
-    pub fn of(alloc: Global, token: &Token, url: &PageUrl) -> Result<FetchText, AllocError>
+    /// The texts of this URL and token. Takes no memory: they are shared.
+    pub fn of(token: &Token, url: &PageUrl) -> Result<FetchText, AllocError>
         ensures { IfOk result (λ text. text ≡ record { token = token.now; url = url.now }) }
     {
-        let token = token.text().as_bytes();
-        let url = url.text().as_bytes();
-        let mut octets = Vec::with_capacity(alloc, token.len() + url.len())?;
-        octets.extend_from_slice(token)?;
-        octets.extend_from_slice(url)?;
         Ok(FetchText {
-            octets,
-            url_start: token.len(),
+            token: token.copy()?,
+            url: url.copy()?,
         })
     }
 
@@ -56,7 +47,7 @@ impl FetchText {
         ensures value { result.now ≡ self.now.token }
         ensures own { token_of self.now.token ≡ Some self.now.token }
     {
-        &self.octets[..self.url_start]
+        self.token.text().as_bytes()
     }
 
     /// The octets of the URL.
@@ -64,7 +55,7 @@ impl FetchText {
         ensures value { result.now ≡ self.now.url }
         ensures page { IsPage self.now.url }
     {
-        &self.octets[self.url_start..]
+        self.url.text().as_bytes()
     }
 }
 

@@ -1,4 +1,4 @@
-//! `Desk::ask` and `Desk::ask_in`: a permit for one fetch. Texts are copied before the lock is taken.
+//! `Desk::ask` and `Desk::ask_in`: a permit for one fetch. Copies are made before the lock is taken.
 //! RFC 9309, sections 2.2 and 2.3.1.
 ghost use Rattle.std.specs.Prelude.{◌≡◌, ◌+◌, ◌*◌, ◌^◌, ◌<◌, ◌≤◌, ℕ, Err, IfOk, length, List, OnErr, vec_capacity};
 ghost use Rattle.gate_history.specs.History.{entry_count};
@@ -45,7 +45,7 @@ impl<'a, G: Gate> Desk<'a, G> {
         // Room for `ask_in`; if memory is refused here, `ask_in` asks again.
         let promised = self.promised();
         let _ = make_room(&mut self.marks, promised, 3);
-        match DeskAsk::new(alloc, token, url) {
+        match DeskAsk::new(token, url) {
             Ok(ask) => self.ask_copied(rt, alloc, ask, moment),
             Err(_) => Err(self.refuse_ask(rt, moment)),
         }

@@ -1,4 +1,4 @@
-//! An ask prepared outside the lock: its texts are already copied.
+//! An ask prepared outside the lock: its copies are already made.
 //! RFC 9309, section 2.2.2.
 ghost use Rattle.std.specs.Prelude.{◌≡◌, IfOk};
 
@@ -7,7 +7,7 @@ use gate_history::FetchText;
 use path_normal::PageUrl;
 use robots_text::Token;
 use robots_verdict::Policy;
-use std::alloc::{AllocError, Global};
+use std::alloc::AllocError;
 use std::marker::Model;
 use std::sync::Arc;
 
@@ -37,15 +37,15 @@ impl Model for DeskAsk {
 }
 
 impl DeskAsk {
-    /// An ask without a verdict.
-    pub fn new(alloc: Global, token: Token, url: PageUrl) -> Result<DeskAsk, AllocError>
+    /// An ask without a verdict. Takes no memory: the texts are shared.
+    pub fn new(token: Token, url: PageUrl) -> Result<DeskAsk, AllocError>
         ensures { IfOk result (λ ask. ask ≡ record { token = token; url = url }) }
     {
         let named = token.copy()?;
         let page = url.copy()?;
-        let fetch = FetchText::of(alloc, &token, &url)?;
+        let fetch = FetchText::of(&token, &url)?;
         Ok(DeskAsk {
-            judged: Judged::new(alloc, named, page)?,
+            judged: Judged::new(named, page)?,
             token,
             url,
             fetch,

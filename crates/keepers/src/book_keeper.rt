@@ -83,8 +83,10 @@ impl<'a> Keeper for BookKeeper<'a> {
         url: PageUrl,
         moment: u64,
     ) -> Result<Reason, Denial> {
-        let Started { reason, .. } = self.book.start(number, token, url, moment)?;
-        Ok(reason)
+        match self.book.start(number, token, url, moment) {
+            Ok(Started { reason, .. }) => Ok(reason),
+            Err(denial) => Err(denial),
+        }
     }
 
     fn url_of(&self, number: PermitNo) -> Option<&PageUrl> {

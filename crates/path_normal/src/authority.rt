@@ -9,17 +9,20 @@ ghost use Rattle.path_normal.specs.Authority.{IsAuthority, authority_among, auth
 ghost use Rattle.path_normal.specs.Capacity.{IsRead};
 
 use crate::fault::AuthorityFault;
-use crate::page_url::{PageUrl, scheme_of};
+use crate::page::scheme_of;
+use crate::page_url::PageUrl;
 use crate::schemes::Schemes;
 use std::alloc::{AllocError, Global};
 use std::fmt;
 use std::marker::Model;
+use std::sync::Arc;
 
 /// The authority of a page's URL: the host in lower case, with `:` and the port unless it is the scheme's
 /// default (80 or 443), after `https://` if that is the scheme.
 #[derive(Drop)]
 pub struct Authority {
-    text: String,
+    // Shared by its copies.
+    text: Arc<String>,
 }
 
 impl Model for Authority {
@@ -30,11 +33,12 @@ impl Model for Authority {
 
     ghost coded = { coded_list coded_ℕ };
 
+    ghost use Rattle.std.specs.Arc.{arc_value};
     ghost use Rattle.path_normal.specs.Authority.{IsAuthority};
 
-    ghost view = { λ authority. string_bytes authority.text };
+    ghost view = { λ authority. string_bytes (arc_value authority.text) };
 
-    ghost invariant = { λ authority. IsAuthority (string_bytes authority.text) };
+    ghost invariant = { λ authority. IsAuthority (string_bytes (arc_value authority.text)) };
 }
 
 impl Authority {
@@ -66,8 +70,10 @@ impl Authority {
     pub fn of(url: &PageUrl) -> Result<Authority, AllocError>
         ensures { IfOk result (λ authority. authority ≡ authority_of url.now) }
     {
+        let alloc = url.allocator();
+        let text = String::from_str(alloc, url.authority())?;
         Ok(Authority {
-            text: String::from_str(url.allocator(), url.authority())?,
+            text: Arc::new(alloc, text)?,
         })
     }
 
@@ -76,17 +82,18 @@ impl Authority {
         requires { IsAuthority text.now }
         ensures { IfOk result (λ authority. authority ≡ text.now) }
     {
+        let text = String::from_str(alloc, text)?;
         Ok(Authority {
-            text: String::from_str(alloc, text)?,
+            text: Arc::new(alloc, text)?,
         })
     }
 
-    /// A copy of the authority.
+    /// A copy of the authority. Takes no memory: the text is shared.
     pub fn copy(&self) -> Result<Authority, AllocError>
         ensures { IfOk result (λ copy. copy ≡ self.now) }
     {
         Ok(Authority {
-            text: self.text.clone()?,
+            text: Arc::try_clone(&self.text)?,
         })
     }
 

@@ -6,6 +6,7 @@ mod authority;
 mod fault;
 pub mod laws;
 mod normal;
+mod page;
 mod page_url;
 mod plain_url;
 mod schemes;

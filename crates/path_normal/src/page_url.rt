@@ -1,27 +1,27 @@
 //! The URL of a page: `http` or `https`, without user and fragment.
 //! URL Standard, sections 4.4 and 4.5.
-ghost use Rattle.std.specs.Prelude.{◌≡◌, ◌<◌, ◌≤◌, None, Some, Ok, Err, IfOk, IsAscii, MatchOption, bytes_eq, length, nat_lt, string_bytes};
+ghost use Rattle.std.specs.Prelude.{◌≡◌, ◌<◌, ◌≤◌, None, Some, Ok, Err, IfOk, bytes_eq, length, nat_lt};
+ghost use Rattle.std.specs.Arc.{arc_value};
 ghost use Rattle.std.specs.Cmp.{partial_equiv_from_equiv};
 ghost use Rattle.std.specs.Cmp.Lexicographic.{nat_list_eq_equiv};
 ghost use Rattle.url.specs.Parser.{parse_url};
-ghost use Rattle.url.specs.Parts.{IsValid, Parts};
+ghost use Rattle.url.specs.Parts.{Parts};
 ghost use Rattle.path_normal.specs.Limits.{max_url};
 ghost use Rattle.path_normal.specs.Normal.{normal_path};
-ghost use Rattle.path_normal.specs.PageText.{authority_of, host_of, host_start, is_https, robots_url_of, scheme_of, target_of};
-ghost use Rattle.path_normal.specs.PageUrl.{HasPartsOf, IsAnswer, IsFaultless, IsNamedOn, IsPage, authority_of_parts, host_of_parts, page_of_parts, page_url_among, page_url_from, page_url_of_parts, page_url_on, page_url_on_among, target_of_parts};
-ghost use Rattle.path_normal.specs.PlainUrl.{IsPlain};
-ghost use Rattle.path_normal.specs.Authority.{IsAuthority};
+ghost use Rattle.path_normal.specs.PageText.{authority_of, host_of, is_https, robots_url_of, target_of};
+ghost use Rattle.path_normal.specs.PageUrl.{HasPartsOf, IsAnswer, IsNamedOn, IsPage, page_url_among, page_url_from, page_url_of_parts, page_url_on, page_url_on_among};
 ghost use Rattle.path_normal.specs.Capacity.{IsRead, IsReadWith};
 
 use crate::authority::Authority;
 use crate::fault::{Unread, UrlFault};
-use crate::normal::normal_path;
+use crate::page::Page;
 use crate::plain_url::plain_host_end;
-use crate::schemes::{Schemes, is_https};
+use crate::schemes::Schemes;
 use std::alloc::{AllocError, Global};
 use std::fmt;
 use std::marker::Model;
-use url::{Position, Url};
+use std::sync::Arc;
+use url::Url;
 
 /// The most bytes of a page URL, as given and as written back.
 pub const MAX_URL: usize = 4_096;
@@ -29,40 +29,24 @@ pub const MAX_URL: usize = 4_096;
 /// The most bytes of its authority, with any port.
 pub const MAX_AUTHORITY: usize = 4_000;
 
-// The path of a robots.txt, in normal form.
-const ROBOTS_PATH: &str = "/robots.txt";
-
 /// The URL of a page as the URL Standard writes it: `http` or `https`, no user, no fragment.
-/// A clause sees it as its text, which `authority_of` and `target_of` split.
+/// A clause sees it as its text, which `authority_of` and `target_of` split. Its copies share the text.
 #[derive(Drop)]
 pub struct PageUrl {
-    text: String,
-    // Where the host begins, and where it ends with its port.
-    start: usize,
-    end: usize,
-    // The normal form of the target, if it differs.
-    path: Option<Vec<u8>>,
+    page: Arc<Page>,
 }
 
 impl Model for PageUrl {
-    ghost use Rattle.std.specs.Prelude.{List, ℕ, ◌≡◌, ◌+◌, length, option_map, string_bytes, unwrap_or};
+    ghost use Rattle.std.specs.Prelude.{List, ℕ};
     ghost use Rattle.std.specs.Coded.{coded_list, coded_ℕ};
 
     ghost Value = { List ℕ };
 
     ghost coded = { coded_list coded_ℕ };
 
-    ghost use Rattle.path_normal.specs.Normal.{normal_path};
-    ghost use Rattle.path_normal.specs.PageText.{host_of, host_start, target_of};
-    ghost use Rattle.path_normal.specs.PageUrl.{IsPage};
+    ghost use Rattle.std.specs.Arc.{arc_value};
 
-    ghost view = { λ url. string_bytes url.text };
-
-    ghost invariant = { λ url. IsPage (string_bytes url.text)
-        × (url.start ≡ host_start (string_bytes url.text))
-        × (url.end ≡ host_start (string_bytes url.text) + length (host_of (string_bytes url.text)))
-        × (unwrap_or (option_map (λ path. path.items) url.path) (target_of (string_bytes url.text))
-        ≡ normal_path (target_of (string_bytes url.text))) };
+    ghost view = { λ url. arc_value url.page };
 }
 
 impl PageUrl {
@@ -106,7 +90,7 @@ impl PageUrl {
         }
         // Most URLs are plain: the parser would not change them.
         if let Some(end) = plain_host_end(text) {
-            return Ok(PageUrl::of_plain(alloc, text, end)?);
+            return Ok(PageUrl::shared(alloc, Page::of_plain(alloc, text, end)?)?);
         }
         let url = Url::parse(alloc, text)?;
         PageUrl::of_parsed(alloc, schemes, &url)
@@ -149,64 +133,31 @@ impl PageUrl {
         ensures url { IfOk result (λ url. url ≡ robots_url_of authority.now) }
         ensures authority { IfOk result (λ url. authority_of url ≡ authority.now) }
     {
-        let alloc = authority.allocator();
-        let text = robots_text(alloc, authority)?;
-        let page = text.as_str();
-        let start = host_start(page);
-        let end = page.len() - ROBOTS_PATH.len();
-        Ok(PageUrl {
-            text,
-            start,
-            end,
-            path: Some(Vec::from_slice(alloc, ROBOTS_PATH.as_bytes())?),
-        })
-    }
-
-    // The page of a plain URL whose host ends at `end`.
-    fn of_plain(alloc: Global, text: &str, end: usize) -> Result<PageUrl, AllocError>
-        requires plain { IsPlain text.now end }
-        requires short { length text.now ≤ max_url }
-        ensures { IfOk result (λ page. page ≡ text.now) }
-    {
-        Ok(PageUrl {
-            text: String::from_str(alloc, text)?,
-            start: "http://".len(),
-            end,
-            path: None,
-        })
+        PageUrl::shared(authority.allocator(), Page::of_robots(authority)?)
     }
 
     fn of_parsed(alloc: Global, schemes: Schemes, url: &Url) -> Result<PageUrl, Unread>
         ensures answer { IsAnswer result (page_url_of_parts schemes url.now) }
         ensures parts { IfOk result (λ page. HasPartsOf page url.now) }
     {
-        if let Some(fault) = fault_in(schemes, url) {
-            return Err(Unread::Fault(fault));
-        }
-        let start = host_start(page_in(url));
-        let end = start + host_in(url).len();
-        let path = normal_path(alloc, target_in(url).as_bytes())?;
+        let page = Page::of_parsed(alloc, schemes, url)?;
+        Ok(PageUrl::shared(alloc, page)?)
+    }
+
+    fn shared(alloc: Global, page: Page) -> Result<PageUrl, AllocError>
+        ensures { IfOk result (λ url. url ≡ page) }
+    {
         Ok(PageUrl {
-            text: String::from_str(alloc, page_in(url))?,
-            start,
-            end,
-            path: Some(path),
+            page: Arc::new(alloc, page)?,
         })
     }
 
-    /// A copy of the URL.
+    /// A copy of the URL. Takes no memory: the text is shared.
     pub fn copy(&self) -> Result<PageUrl, AllocError>
         ensures { IfOk result (λ copy. copy ≡ self.now) }
     {
-        let path = match &self.path {
-            Some(path) => Some(path.clone()?),
-            None => None,
-        };
         Ok(PageUrl {
-            text: self.text.clone()?,
-            start: self.start,
-            end: self.end,
-            path,
+            page: Arc::try_clone(&self.page)?,
         })
     }
 
@@ -215,7 +166,7 @@ impl PageUrl {
         ensures value { result.now ≡ self.now }
         ensures page { IsPage self.now }
     {
-        self.text.as_str()
+        self.page.text()
     }
 
     /// Whether the scheme is `https` (RFC 9110, 4.2.2).
@@ -223,7 +174,7 @@ impl PageUrl {
         ensures value { result ≡ is_https self.now }
         ensures page { IsPage self.now }
     {
-        self.start > "http://".len()
+        self.page.is_https()
     }
 
     /// The host, with `:` and the port unless it is the scheme's default, 80 or 443 (RFC 3986, 3.2).
@@ -231,7 +182,7 @@ impl PageUrl {
         ensures value { result.now ≡ host_of self.now }
         ensures page { IsPage self.now }
     {
-        &self.text.as_str()[self.start..self.end]
+        self.page.host()
     }
 
     /// The `host`, after `https://` if that is the scheme: a robots.txt applies to it (RFC 9309, 2.3).
@@ -239,11 +190,7 @@ impl PageUrl {
         ensures value { result.now ≡ authority_of self.now }
         ensures page { IsPage self.now }
     {
-        if self.is_https() {
-            &self.text.as_str()[..self.end]
-        } else {
-            self.host()
-        }
+        self.page.authority()
     }
 
     /// The path, with `?` and the query if any (RFC 3986, 3.3 and 3.4).
@@ -251,7 +198,7 @@ impl PageUrl {
         ensures value { result.now ≡ target_of self.now }
         ensures page { IsPage self.now }
     {
-        &self.text.as_str()[self.end..]
+        self.page.target()
     }
 
     /// The path for patterns: the target in normal form (RFC 9309, 2.2.2).
@@ -259,43 +206,12 @@ impl PageUrl {
         ensures value { result.now ≡ normal_path (target_of self.now) }
         ensures page { IsPage self.now }
     {
-        match &self.path {
-            Some(path) => path.as_slice(),
-            None => self.target().as_bytes(),
-        }
+        self.page.path_to_match()
     }
 
     /// The allocator of the text.
     pub(crate) fn allocator(&self) -> Global {
-        *self.text.allocator()
-    }
-}
-
-fn robots_text(alloc: Global, authority: &Authority) -> Result<String, AllocError>
-    ensures value { IfOk result (λ text. string_bytes text ≡ robots_url_of authority.now) }
-    ensures authority { IsAuthority authority.now }
-{
-    let authority = authority.text();
-    let mut text = String::from_str(alloc, scheme_of(authority))?;
-    text.push_str(authority)?;
-    text.push_str(ROBOTS_PATH)?;
-    Ok(text)
-}
-
-/// The prefix of an authority in its pages' URLs.
-pub(crate) fn scheme_of(authority: &str) -> &'static str
-    ensures { result.now ≡ scheme_of authority.now }
-{
-    if is_https(authority) { "" } else { "http://" }
-}
-
-fn host_start(page: &str) -> usize
-    ensures { result ≡ host_start page.now }
-{
-    if is_https(page) {
-        "https://".len()
-    } else {
-        "http://".len()
+        self.page.allocator()
     }
 }
 
@@ -303,54 +219,6 @@ fn is_long(text: &str) -> bool
     ensures { result ≡ nat_lt max_url (length text.now) }
 {
     text.len() > MAX_URL
-}
-
-fn fault_in(schemes: Schemes, url: &Url) -> Option<UrlFault>
-    ensures { MatchOption result (IsFaultless schemes url.now)
-        (λ fault. page_url_of_parts schemes url.now ≡ Err fault) }
-{
-    if !schemes.reads(url.scheme()) {
-        return Some(UrlFault::NotHttp);
-    }
-    if !url.username().is_empty() || url.password().is_some() {
-        return Some(UrlFault::HasUser);
-    }
-    if page_in(url).len() > MAX_URL || authority_len(url) > MAX_AUTHORITY {
-        return Some(UrlFault::TooLong);
-    }
-    None
-}
-
-fn authority_len(url: &Url) -> usize
-    ensures value { result ≡ length (authority_of_parts url.now) }
-    ensures valid { IsValid url.now }
-{
-    let host = host_in(url).len();
-    if url.scheme() == "https" {
-        "https://".len() + host
-    } else {
-        host
-    }
-}
-
-fn page_in(url: &Url) -> &str
-    ensures value { result.now ≡ page_of_parts url.now }
-    ensures ascii { IsAscii result.now }
-{
-    url.slice(Position::BeforeScheme, Position::AfterQuery)
-}
-
-fn target_in(url: &Url) -> &str
-    ensures { result.now ≡ target_of_parts url.now }
-{
-    url.slice(Position::BeforePath, Position::AfterQuery)
-}
-
-fn host_in(url: &Url) -> &str
-    ensures value { result.now ≡ host_of_parts url.now }
-    ensures valid { IsValid url.now }
-{
-    url.slice(Position::BeforeHost, Position::AfterPort)
 }
 
 impl PartialEq for PageUrl {

@@ -4,6 +4,7 @@
 
 mod grouped;
 mod groups;
+mod last_token;
 pub mod laws;
 mod line;
 mod record;
@@ -14,6 +15,7 @@ mod words;
 
 pub use grouped::{GroupedRecord, GroupedRecords};
 pub use groups::{RuleLine, RulesFor, Whom, speaks, whom_for};
+pub use last_token::LastToken;
 pub use record::{Agent, RecordKind, RecordLine, RuleKind};
 pub use records::Records;
 pub use text::{MAX_TEXT, RobotsText};

@@ -1,24 +1,27 @@
 //! A product token, which names a crawler.
 //! RFC 9309, section 2.2.1.
-ghost use Rattle.std.specs.Prelude.{◌≡◌, ◌↔◌, None, Some, IfOk, IfErr, bytes_eq};
+ghost use Rattle.std.specs.Prelude.{◌≡◌, ◌↔◌, None, Some, IfOk, IfErr, bytes_eq, string_bytes, true};
+ghost use Rattle.std.specs.Arc.{arc_value};
 ghost use Rattle.std.specs.Cmp.{partial_equiv_from_equiv};
 ghost use Rattle.std.specs.Cmp.Lexicographic.{nat_list_eq_equiv};
 ghost use Rattle.std.specs.List.{list_all};
-ghost use Rattle.robots_text.specs.Token.{is_token_octet, is_token, token_of};
+ghost use Rattle.robots_text.specs.Token.{is_token_octet, is_token, lower_case, token_of};
 
 use crate::words::lower_case;
 use std::alloc::{AllocError, Global};
 use std::error::Error;
 use std::fmt;
 use std::marker::Model;
+use std::sync::Arc;
 
 /// The most octets that a product token has.
 pub const MAX_TOKEN: usize = 64;
 
-/// A crawler's product token (RFC 9309, 2.2.1): 1 to 64 letters, `-` and `_`, kept in lower case.
+/// A crawler's product token (RFC 9309, 2.2.1): 1 to 64 letters, `-` and `_`, kept in lower case. Its copies
+/// share the text.
 #[derive(Drop)]
 pub struct Token {
-    text: String,
+    text: Arc<String>,
 }
 
 impl Model for Token {
@@ -31,10 +34,12 @@ impl Model for Token {
 
     ghost use Rattle.std.specs.Prelude.{◌≡◌, Some};
     ghost use Rattle.robots_text.specs.Token.{token_of};
+    ghost use Rattle.std.specs.Arc.{arc_value};
 
-    ghost view = { λ token. string_bytes token.text };
+    ghost view = { λ token. string_bytes (arc_value token.text) };
 
-    ghost invariant = { λ token. let text = string_bytes token.text in token_of text ≡ Some text };
+    ghost invariant = { λ token.
+        let text = string_bytes (arc_value token.text) in token_of text ≡ Some text };
 }
 
 /// Why octets are no token.
@@ -83,18 +88,18 @@ impl Token {
         if !is_token(octets) {
             return Err(TokenFault::BadToken);
         }
-        match String::from_utf8(lower_case(alloc, octets)?) {
-            Ok(text) => Ok(Token { text }),
-            Err(_) => unreachable!(),
-        }
+        let text = lower_text(alloc, octets)?;
+        Ok(Token {
+            text: shared(alloc, text)?,
+        })
     }
 
-    /// A copy of the token.
+    /// A copy of the token. Takes no memory: the text is shared.
     pub fn copy(&self) -> Result<Token, AllocError>
         ensures { IfOk result (λ copy. copy ≡ self.now) }
     {
         Ok(Token {
-            text: self.text.clone()?,
+            text: Arc::try_clone(&self.text)?,
         })
     }
 
@@ -113,7 +118,7 @@ impl PartialEq for Token {
     ghost laws = { partial_equiv_from_equiv nat_list_eq_equiv };
 
     fn eq(&self, other: &Token) -> bool {
-        self.text.as_str() == other.text.as_str()
+        self.text() == other.text()
     }
 }
 
@@ -133,6 +138,22 @@ pub(crate) fn is_token_octet(octet: u8) -> bool
     ensures { result ≡ is_token_octet octet }
 {
     octet.is_ascii_alphabetic() || octet == b'-' || octet == b'_'
+}
+
+fn lower_text(alloc: Global, octets: &[u8]) -> Result<String, AllocError>
+    requires { is_token octets.now ≡ true }
+    ensures { IfOk result (λ text. string_bytes text ≡ lower_case octets.now) }
+{
+    match String::from_utf8(lower_case(alloc, octets)?) {
+        Ok(text) => Ok(text),
+        Err(_) => unreachable!(),
+    }
+}
+
+fn shared(alloc: Global, text: String) -> Result<Arc<String>, AllocError>
+    ensures { IfOk result (λ shared. arc_value shared ≡ text) }
+{
+    Ok(Arc::new(alloc, text)?)
 }
 
 fn is_token(octets: &[u8]) -> bool

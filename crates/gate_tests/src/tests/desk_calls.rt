@@ -97,7 +97,7 @@ pub(super) fn asked<G: Gate, R: Wait>(
     match form {
         CallForm::Plain => desk.ask(rt, token, url, 110),
         CallForm::Held => {
-            let ask = DeskAsk::new(alloc, token, url)?;
+            let ask = DeskAsk::new(token, url)?;
             let mut held = desk.lend(rt);
             desk.ask_in(&mut held, ask, 110)
         }

@@ -16,7 +16,7 @@ const URL: &str = "http://a.example/a/page/of/forty/octets/";
 fn fetch_text(alloc: Global) -> Result<FetchText, Fail> {
     let token = Token::new(alloc, TOKEN.as_bytes())?;
     let url = PageUrl::parse(alloc, URL)?;
-    Ok(FetchText::of(alloc, &token, &url)?)
+    Ok(FetchText::of(&token, &url)?)
 }
 
 #[test]
@@ -32,7 +32,7 @@ fn an_entry_takes_at_most_100_octets(rt: HostRuntime) -> Result<(), Fail> {
     // A grant has the texts, its start and finish none.
     let octets = 3 * size_of::<Entry>() + TOKEN.len() + URL.len();
     assert_eq!(rt; URL.len(), 40, "the URL's octets");
-    assert_eq!(rt; size_of::<Entry>(), 72, "an entry without its texts");
+    assert_eq!(rt; size_of::<Entry>(), 56, "an entry without its texts");
     assert!(rt; octets <= 300, "three entries with the texts of one fetch");
     Ok(())
 }

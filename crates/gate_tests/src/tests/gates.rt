@@ -107,7 +107,7 @@ fn granted(alloc: Global, page: &str, number: u64) -> Result<Entry, Fail> {
     Ok(Entry::Granted {
         moment: 110,
         number: PermitNo::new(number),
-        fetch: FetchText::of(alloc, &token, &url)?,
+        fetch: FetchText::of(&token, &url)?,
     })
 }
 

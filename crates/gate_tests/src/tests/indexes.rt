@@ -50,7 +50,7 @@ fn brings_one(alloc: Global, book: &mut Book) -> Result<(), Fail> {
         return Err(Fail::new("no index is made"));
     }
     let token = Token::new(alloc, b"foobot")?;
-    let judged = Judged::new(alloc, token, PageUrl::parse(alloc, PAGE)?)?;
+    let judged = Judged::new(token, PageUrl::parse(alloc, PAGE)?)?;
     is_denied(book.ask_judged(judged.judged_by(policy), 120).err())?;
     is_indexed(book, true)
 }

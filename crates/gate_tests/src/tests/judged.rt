@@ -134,7 +134,7 @@ fn judge<G: Gate, R: Wait>(
     if policy.is_some() != has_rules {
         return Err(Fail::new("a policy where there are no rules, or none where there are"));
     }
-    let ask = DeskAsk::new(alloc, token, url)?;
+    let ask = DeskAsk::new(token, url)?;
     match policy {
         Some(policy) => Ok(ask.judged_by(policy)),
         None => Ok(ask),

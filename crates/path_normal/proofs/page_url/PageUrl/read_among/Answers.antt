@@ -12,5 +12,5 @@ pub returns-in-Some-clause-parts : goal.returns-in-Some-clause-parts
 returns-in-Some-clause-parts c =
     let fits = sym c.is_long.ensures ∙ c.if-is_long.false in
     let short : length c.args.text.now ≤ max_url = grind (arith, nat_tests, fits) in
-    subst (λ (page : List ℕ). (url : Parts) × (parse_url None c.args.text.now ≡ Ok url) × HasPartsOf page url) (sym (c.in_ok-of_plain.ensures {u = tt}))
+    subst (λ (page : List ℕ). (url : Parts) × (parse_url None c.args.text.now ≡ Ok url) × HasPartsOf page url) (sym (c.in_ok-shared.ensures {u = tt} ∙ c.in_ok-of_plain.ensures {u = tt}))
     (plain_parsed c.args.text.now c.in-Some.end (c.in-Some.ensures {u = tt}) short)

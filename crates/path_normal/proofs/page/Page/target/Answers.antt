@@ -1,7 +1,7 @@
 -- The text after the stored end of the host is the target.
 use Rattle.std.proofs.Common.{◌∙◌, ap, drop}
 use Rattle.path_normal.proofs.PageLemmas.{target_at}
-use Rattle.path_normal.proofs.page_url.PageUrl.target.Goals as goal
+use Rattle.path_normal.proofs.page.Page.target.Goals as goal
 
 pub returns-clause-value : goal.returns-clause-value
 returns-clause-value c =

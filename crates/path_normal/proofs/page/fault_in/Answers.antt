@@ -3,7 +3,7 @@ use Rattle.std.proofs.Common.{◌≡◌, rules, length, ap, arith, true}
 use Rattle.std.proofs.lemmas.Grind.{common_steps}
 use Rattle.path_normal.specs.Schemes.{reads}
 use Rattle.path_normal.proofs.PageLemmas.{scheme_read}
-use Rattle.path_normal.proofs.page_url.fault_in.Goals as goal
+use Rattle.path_normal.proofs.page.fault_in.Goals as goal
 
 pub returns : goal.returns
 returns c =

@@ -3,7 +3,7 @@ use Rattle.std.proofs.Common.{◌∙◌, ap, sym}
 use Rattle.std.specs.Prelude.{slice_range}
 use Rattle.path_normal.specs.PageText.{authority_of, host_of, is_https, named}
 use Rattle.path_normal.proofs.PageLemmas.{authority_at}
-use Rattle.path_normal.proofs.page_url.PageUrl.authority.Goals as goal
+use Rattle.path_normal.proofs.page.Page.authority.Goals as goal
 
 pub returns-then-is_https-clause-value : goal.returns-then-is_https-clause-value
 returns-then-is_https-clause-value c =

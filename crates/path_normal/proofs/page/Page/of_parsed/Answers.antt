@@ -4,7 +4,7 @@ use Rattle.path_normal.specs.Normal.{normal_path}
 use Rattle.path_normal.specs.PageText.{host_start}
 use Rattle.path_normal.specs.PageUrl.{IsPage}
 use Rattle.path_normal.proofs.PageLemmas.{faultless_page, faultless_splits, host_end, Splits}
-use Rattle.path_normal.proofs.page_url.PageUrl.of_parsed.Goals as goal
+use Rattle.path_normal.proofs.page.Page.of_parsed.Goals as goal
 
 pub invariant_of-result : goal.invariant_of-result
 invariant_of-result c =

@@ -3,7 +3,7 @@ use Rattle.std.proofs.Common.{◌∙◌, ◌-◌, length, sym, ap, subst}
 use Rattle.path_normal.specs.Normal.{normal_path}
 use Rattle.path_normal.specs.PageText.{authority_of, host_start}
 use Rattle.path_normal.proofs.AuthorityLemmas.{robots_end, robots_page, IsRobotsPage}
-use Rattle.path_normal.proofs.page_url.PageUrl.of_robots.Goals as goal
+use Rattle.path_normal.proofs.page.Page.of_robots.Goals as goal
 
 pub invariant_of-result : goal.invariant_of-result
 invariant_of-result c =

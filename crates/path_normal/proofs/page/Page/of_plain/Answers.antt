@@ -4,7 +4,7 @@ use Rattle.path_normal.specs.Normal.{normal_path}
 use Rattle.path_normal.specs.PageText.{host_of, host_start, target_of}
 use Rattle.path_normal.specs.PageUrl.{IsPage}
 use Rattle.path_normal.proofs.PlainLemmas.{plain_ascii, plain_form, plain_page, plain_splits}
-use Rattle.path_normal.proofs.page_url.PageUrl.of_plain.Goals as goal
+use Rattle.path_normal.proofs.page.Page.of_plain.Goals as goal
 
 pub invariant_of-result : goal.invariant_of-result
 invariant_of-result c =

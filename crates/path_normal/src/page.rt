@@ -1,0 +1,243 @@
+//! A page's URL as one text, with the places of its parts.
+//! URL Standard, sections 4.4 and 4.5.
+ghost use Rattle.std.specs.Prelude.{◌≡◌, ◌≤◌, Err, Ok, IfOk, IsAscii, MatchOption, length, string_bytes};
+ghost use Rattle.url.specs.Parts.{IsValid};
+ghost use Rattle.path_normal.specs.Limits.{max_url};
+ghost use Rattle.path_normal.specs.Normal.{normal_path};
+ghost use Rattle.path_normal.specs.PageText.{authority_of, host_of, host_start, is_https, robots_url_of, scheme_of, target_of};
+ghost use Rattle.path_normal.specs.PageUrl.{HasPartsOf, IsAnswer, IsFaultless, IsPage, authority_of_parts, host_of_parts, page_of_parts, page_url_of_parts, target_of_parts};
+ghost use Rattle.path_normal.specs.PlainUrl.{IsPlain};
+ghost use Rattle.path_normal.specs.Authority.{IsAuthority};
+
+use crate::authority::Authority;
+use crate::fault::{Unread, UrlFault};
+use crate::normal::normal_path;
+use crate::page_url::{MAX_AUTHORITY, MAX_URL};
+use crate::schemes::{Schemes, is_https};
+use std::alloc::{AllocError, Global};
+use std::marker::Model;
+use url::{Position, Url};
+
+// The path of a robots.txt, in normal form.
+const ROBOTS_PATH: &str = "/robots.txt";
+
+/// The URL of a page, which the copies of a `PageUrl` share.
+#[derive(Drop)]
+pub(crate) struct Page {
+    text: String,
+    // Where the host begins, and where it ends with its port.
+    start: usize,
+    end: usize,
+    // The normal form of the target, if it differs.
+    path: Option<Vec<u8>>,
+}
+
+impl Model for Page {
+    ghost use Rattle.std.specs.Prelude.{List, ℕ, ◌≡◌, ◌+◌, length, option_map, string_bytes, unwrap_or};
+    ghost use Rattle.std.specs.Coded.{coded_list, coded_ℕ};
+
+    ghost Value = { List ℕ };
+
+    ghost coded = { coded_list coded_ℕ };
+
+    ghost use Rattle.path_normal.specs.Normal.{normal_path};
+    ghost use Rattle.path_normal.specs.PageText.{host_of, host_start, target_of};
+    ghost use Rattle.path_normal.specs.PageUrl.{IsPage};
+
+    ghost view = { λ page. string_bytes page.text };
+
+    ghost invariant = { λ page. IsPage (string_bytes page.text)
+        × (page.start ≡ host_start (string_bytes page.text))
+        × (page.end ≡ host_start (string_bytes page.text) + length (host_of (string_bytes page.text)))
+        × (unwrap_or (option_map (λ path. path.items) page.path) (target_of (string_bytes page.text))
+        ≡ normal_path (target_of (string_bytes page.text))) };
+}
+
+impl Page {
+    /// The page of an authority's robots.txt.
+    pub(crate) fn of_robots(authority: &Authority) -> Result<Page, AllocError>
+        ensures url { IfOk result (λ page. page ≡ robots_url_of authority.now) }
+        ensures authority { IfOk result (λ page. authority_of page ≡ authority.now) }
+    {
+        let alloc = authority.allocator();
+        let text = robots_text(alloc, authority)?;
+        let page = text.as_str();
+        let start = host_start(page);
+        let end = page.len() - ROBOTS_PATH.len();
+        Ok(Page {
+            text,
+            start,
+            end,
+            path: Some(Vec::from_slice(alloc, ROBOTS_PATH.as_bytes())?),
+        })
+    }
+
+    /// The page of a plain URL whose host ends at `end`.
+    pub(crate) fn of_plain(alloc: Global, text: &str, end: usize) -> Result<Page, AllocError>
+        requires plain { IsPlain text.now end }
+        requires short { length text.now ≤ max_url }
+        ensures { IfOk result (λ page. page ≡ text.now) }
+    {
+        Ok(Page {
+            text: String::from_str(alloc, text)?,
+            start: "http://".len(),
+            end,
+            path: None,
+        })
+    }
+
+    /// The page of a parsed URL, if it has one.
+    pub(crate) fn of_parsed(alloc: Global, schemes: Schemes, url: &Url) -> Result<Page, Unread>
+        ensures answer { IsAnswer result (page_url_of_parts schemes url.now) }
+        ensures parts { IfOk result (λ page. HasPartsOf page url.now) }
+    {
+        if let Some(fault) = fault_in(schemes, url) {
+            return Err(Unread::Fault(fault));
+        }
+        let start = host_start(page_in(url));
+        let end = start + host_in(url).len();
+        let path = normal_path(alloc, target_in(url).as_bytes())?;
+        Ok(Page {
+            text: String::from_str(alloc, page_in(url))?,
+            start,
+            end,
+            path: Some(path),
+        })
+    }
+
+    /// The URL.
+    pub(crate) fn text(&self) -> &str
+        ensures value { result.now ≡ self.now }
+        ensures page { IsPage self.now }
+    {
+        self.text.as_str()
+    }
+
+    /// Whether the scheme is `https`.
+    pub(crate) fn is_https(&self) -> bool
+        ensures value { result ≡ is_https self.now }
+        ensures page { IsPage self.now }
+    {
+        self.start > "http://".len()
+    }
+
+    /// The host, with any port.
+    pub(crate) fn host(&self) -> &str
+        ensures value { result.now ≡ host_of self.now }
+        ensures page { IsPage self.now }
+    {
+        &self.text.as_str()[self.start..self.end]
+    }
+
+    /// The authority.
+    pub(crate) fn authority(&self) -> &str
+        ensures value { result.now ≡ authority_of self.now }
+        ensures page { IsPage self.now }
+    {
+        if self.is_https() {
+            &self.text.as_str()[..self.end]
+        } else {
+            self.host()
+        }
+    }
+
+    /// The path and any query.
+    pub(crate) fn target(&self) -> &str
+        ensures value { result.now ≡ target_of self.now }
+        ensures page { IsPage self.now }
+    {
+        &self.text.as_str()[self.end..]
+    }
+
+    /// The target in normal form.
+    pub(crate) fn path_to_match(&self) -> &[u8]
+        ensures value { result.now ≡ normal_path (target_of self.now) }
+        ensures page { IsPage self.now }
+    {
+        match &self.path {
+            Some(path) => path.as_slice(),
+            None => self.target().as_bytes(),
+        }
+    }
+
+    /// The allocator of the text.
+    pub(crate) fn allocator(&self) -> Global {
+        *self.text.allocator()
+    }
+}
+
+fn robots_text(alloc: Global, authority: &Authority) -> Result<String, AllocError>
+    ensures value { IfOk result (λ text. string_bytes text ≡ robots_url_of authority.now) }
+    ensures authority { IsAuthority authority.now }
+{
+    let authority = authority.text();
+    let mut text = String::from_str(alloc, scheme_of(authority))?;
+    text.push_str(authority)?;
+    text.push_str(ROBOTS_PATH)?;
+    Ok(text)
+}
+
+/// The prefix of an authority in its pages' URLs.
+pub(crate) fn scheme_of(authority: &str) -> &'static str
+    ensures { result.now ≡ scheme_of authority.now }
+{
+    if is_https(authority) { "" } else { "http://" }
+}
+
+fn host_start(page: &str) -> usize
+    ensures { result ≡ host_start page.now }
+{
+    if is_https(page) {
+        "https://".len()
+    } else {
+        "http://".len()
+    }
+}
+
+fn fault_in(schemes: Schemes, url: &Url) -> Option<UrlFault>
+    ensures { MatchOption result (IsFaultless schemes url.now)
+        (λ fault. page_url_of_parts schemes url.now ≡ Err fault) }
+{
+    if !schemes.reads(url.scheme()) {
+        return Some(UrlFault::NotHttp);
+    }
+    if !url.username().is_empty() || url.password().is_some() {
+        return Some(UrlFault::HasUser);
+    }
+    if page_in(url).len() > MAX_URL || authority_len(url) > MAX_AUTHORITY {
+        return Some(UrlFault::TooLong);
+    }
+    None
+}
+
+fn authority_len(url: &Url) -> usize
+    ensures value { result ≡ length (authority_of_parts url.now) }
+    ensures valid { IsValid url.now }
+{
+    let host = host_in(url).len();
+    if url.scheme() == "https" {
+        "https://".len() + host
+    } else {
+        host
+    }
+}
+
+fn page_in(url: &Url) -> &str
+    ensures value { result.now ≡ page_of_parts url.now }
+    ensures ascii { IsAscii result.now }
+{
+    url.slice(Position::BeforeScheme, Position::AfterQuery)
+}
+
+fn target_in(url: &Url) -> &str
+    ensures { result.now ≡ target_of_parts url.now }
+{
+    url.slice(Position::BeforePath, Position::AfterQuery)
+}
+
+fn host_in(url: &Url) -> &str
+    ensures value { result.now ≡ host_of_parts url.now }
+    ensures valid { IsValid url.now }
+{
+    url.slice(Position::BeforeHost, Position::AfterPort)
+}
