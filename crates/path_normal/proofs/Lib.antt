@@ -3,6 +3,7 @@
 pub mod NormalLemmas
 pub mod PageLemmas
 pub mod PlainLemmas
+pub mod PlainHosts
 pub mod AuthorityLemmas
 pub mod SchemeLemmas
 pub mod CallerLemmas

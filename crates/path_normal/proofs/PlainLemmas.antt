@@ -1,8 +1,9 @@
 -- A plain URL is valid, and is written unchanged.
 -- Used by `plain_url` and by `PageUrl::of_plain`.
 use Rattle.std.proofs.Common.{◌≡◌, ◌≤◌, ◌<◌, ◌+◌, ◌-◌, ◌==◌, ◌⊎◌, ℕ, Bool, true, false, not, ◌&&◌, ◌||◌, List, [], ◌∷◌, ◌++◌, length, get_or, take, drop, Some, None, Ok, All, refl, sym, ap, subst, ◌∙◌, append_assoc, append-nil, length-drop, arith, inl, inr}
-use Rattle.std.specs.Prelude.{Option, codes, is_some, IsAscii, if◌then◌else◌}
+use Rattle.std.specs.Prelude.{Option, codes, decimal, is_some, unwrap_or, IsAscii, if◌then◌else◌}
 use Rattle.std.specs.Char.{is_ascii_digit, is_ascii_lowercase, is_digit, to_ascii_lowercase}
+use Rattle.std.specs.Int.{IsInRange}
 use Rattle.std.specs.List.{list_all, position}
 use Rattle.std.proofs.Math.Bool.{or-true}
 use Rattle.std.proofs.Math.Seq.{take-length}
@@ -13,19 +14,21 @@ use Rattle.std.proofs.lemmas.List.Elements.{All-append, All-weaker, All-nil, All
 use Rattle.std.proofs.lemmas.List.Quantifiers.{position-Some}
 use Rattle.std.proofs.lemmas.Str.Ascii.{IsAscii-from_all}
 use Rattle.percent_encoding.specs.Percent.{IsKept}
-use Rattle.url.specs.declared.host.Host.TheVariants.{Domain}
+use Rattle.url.specs.declared.host.Host.{Host}
+use Rattle.url.specs.declared.host.Host.TheVariants.{Domain, Ipv4, Ipv6}
 use Rattle.url.specs.declared.scheme.SchemeType.TheVariants.{SpecialNotFile}
 use Rattle.url.specs.declared.sets.TheConstants.{FORBIDDEN_DOMAIN, PATH, USERINFO}
 use Rattle.url.specs.Ascii.{dot, slash}
-use Rattle.url.specs.Host.{IsDomain}
+use Rattle.url.specs.Host.{IsDomain, host_text, is_empty_host}
 use Rattle.url.specs.Input.{is_empty, rsplit_once, rsplit_step}
 use Rattle.url.specs.Ipv4.{ends_in_a_number, is_number, last_label_of, parse_number}
 use Rattle.url.specs.Host.{IsHostOf}
 use Rattle.url.specs.Parser.{parse_url}
-use Rattle.url.specs.Parts.{Parts, IsHierarchicalPath, IsValid}
+use Rattle.url.specs.Parts.{Parts, IsHierarchicalPath, IsPortOf, IsValid, cannot_have_credentials_or_port}
 use Rattle.url.specs.Path.{dot_count, IsSegment, IsSegmentList}
 use Rattle.url.specs.Scheme.{default_port, is_slash as is_slash_of, scheme_len, scheme_type, IsScheme as IsUrlScheme}
 use Rattle.url.proofs.Theorems.{parse_url-serialize_special}
+use Rattle.url.proofs.HostRoundTrip.{All-decimal, IsHostByte, host_text_plain}
 use Rattle.url.proofs.InputLemmas.{Passes, is_empty_nonempty, lowercase_other, map_fixed, split_around}
 use Rattle.url.proofs.PathLemmas.{no_segments, push_valid}
 use Rattle.url.proofs.SetLemmas.{kept_from_passes}
@@ -37,10 +40,10 @@ use Rattle.path_normal.specs.declared.normal.Role.TheVariants.{Path}
 use Rattle.path_normal.specs.Normal.{is_changed, is_unreserved, normal, normal_path}
 use Rattle.path_normal.proofs.NormalLemmas.{kept_front}
 use Rattle.path_normal.specs.PageText.{host_of, host_start, target_of}
-use Rattle.path_normal.specs.PageUrl.{HasPartsOf, IsFaultless, IsPage, host_of_parts, page_of_parts, page_url_among, target_of_parts}
+use Rattle.path_normal.specs.PageUrl.{HasPartsOf, IsFaultless, IsPage, host_of_parts, page_of_parts, page_url_among, port_text, target_of_parts}
 use Rattle.path_normal.specs.Schemes.{reads}
 use Rattle.path_normal.proofs.PageLemmas.{Splits, faultless_page, faultless_reads, faultless_splits, page_pieces, page_reads_as_itself}
-use Rattle.path_normal.specs.PlainUrl.{IsPlain, is_label_octet, is_plain_host, is_plain_path, is_slash}
+use Rattle.path_normal.specs.PlainUrl.{IsPlain, IsPlainAuthority, IsPlainHost, IsPlainPort, is_label_octet, is_plain_domain, is_plain_path, is_slash}
 
 -- ---- what was looked at
 
@@ -48,16 +51,16 @@ rest_of : {X : Type 0} (n : ℕ) (l : List X) → take (length l - n) (drop n l)
 rest_of n l = ap (λ k. take k (drop n l)) (sym (length-drop n l)) ∙ take-length (drop n l)
 
 pub plain_at : (text rest : List ℕ) (len : ℕ) → text ≡ codes "http://" ++ rest → position is_slash rest ≡ Some len → len ≤ max_authority →
-    is_plain_host true (take len rest) ≡ true → is_plain_path true (take (length rest - (len + 1)) (drop (len + 1) rest)) ≡ true → IsPlain text (7 + len)
-plain_at text rest len spelled at short host path =
+    IsPlainAuthority (take len rest) → is_plain_path true (take (length rest - (len + 1)) (drop (len + 1) rest)) ≡ true → IsPlain text (7 + len)
+plain_at text rest len spelled at short authority path =
     let found = position-Some is_slash rest len 0 at in
     let count : length (take len rest) ≡ len = length-take-le len rest (omega (arith, found.0)) in
     record {
-      host = take len rest;
+      authority = take len rest;
       path = drop (len + 1) rest;
       spelled = spelled ∙ ap (λ r. codes "http://" ++ r) (split_around rest len slash found.0 (eqb-true (get_or rest len 0) slash found.1));
       end_is = ap (λ n. 7 + n) (sym count);
-      host_is = host;
+      authority_is = authority;
       path_is = sym (ap (is_plain_path true) (rest_of (len + 1) rest)) ∙ path;
       limit = subst (λ n. n ≤ max_authority) (sym count) short;
     }
@@ -79,20 +82,20 @@ either false b c is = absurd (true≢false (sym is))
 lower_is_host : (octet : ℕ) → is_ascii_lowercase octet ≡ true → is_host_octet octet ≡ true
 lower_is_host octet is = grind (arith, nat_tests, is)
 
-host_octets : (begins : Bool) (host : List ℕ) → is_plain_host begins host ≡ true → All (Passes is_host_octet) host
+host_octets : (begins : Bool) (host : List ℕ) → is_plain_domain begins host ≡ true → All (Passes is_host_octet) host
 host_octets begins [] is = All-nil (Passes is_host_octet)
 host_octets true (octet ∷ octets) is =
-    let parts = and_parts (is_ascii_lowercase octet) (is_plain_host false octets) is in
+    let parts = and_parts (is_ascii_lowercase octet) (is_plain_domain false octets) is in
     All-cons (Passes is_host_octet) octet octets (lower_is_host octet parts.0) (host_octets false octets parts.1)
 host_octets false (octet ∷ octets) is = by (octet == dot) refl (host_octets true octets) (host_octets false octets)
   where
-    by : (b : Bool) → (octet == dot) ≡ b → (is_plain_host true octets ≡ true → All (Passes is_host_octet) octets) →
-        (is_plain_host false octets ≡ true → All (Passes is_host_octet) octets) → All (Passes is_host_octet) (octet ∷ octets)
+    by : (b : Bool) → (octet == dot) ≡ b → (is_plain_domain true octets ≡ true → All (Passes is_host_octet) octets) →
+        (is_plain_domain false octets ≡ true → All (Passes is_host_octet) octets) → All (Passes is_host_octet) (octet ∷ octets)
     by true at first other =
         All-cons (Passes is_host_octet) octet octets (ap (λ b. is_label_octet octet || b) at ∙ or-true (is_label_octet octet))
-        (first (sym (ap (λ b. if b then is_plain_host true octets else is_label_octet octet && is_plain_host false octets) at) ∙ is))
+        (first (sym (ap (λ b. if b then is_plain_domain true octets else is_label_octet octet && is_plain_domain false octets) at) ∙ is))
     by false at first other =
-        let parts = and_parts (is_label_octet octet) (is_plain_host false octets) (sym (ap (λ b. if b then is_plain_host true octets else is_label_octet octet && is_plain_host false octets) at) ∙ is) in
+        let parts = and_parts (is_label_octet octet) (is_plain_domain false octets) (sym (ap (λ b. if b then is_plain_domain true octets else is_label_octet octet && is_plain_domain false octets) at) ∙ is) in
         All-cons (Passes is_host_octet) octet octets (either (is_label_octet octet) (octet == dot) true parts.0) (other parts.1)
 
 host_small : (octet : ℕ) → is_host_octet octet ≡ true → octet < 128
@@ -139,24 +142,24 @@ other_step octet (Some front) back at (inr named) = inr named
 other_step octet None back at behind =
     subst (λ b. IsNamedBehind false (cut b octet back).0 (cut b octet back).1) (sym at) (inl refl)
 
-behind_last : (begins : Bool) (host : List ℕ) → is_plain_host begins host ≡ true → IsNamedBehind begins (rsplit_once dot host).0 (rsplit_once dot host).1
+behind_last : (begins : Bool) (host : List ℕ) → is_plain_domain begins host ≡ true → IsNamedBehind begins (rsplit_once dot host).0 (rsplit_once dot host).1
 unfolding rsplit_once
 behind_last true [] is = absurd (true≢false (sym is))
 behind_last false [] is = inl refl
 behind_last true (octet ∷ octets) is =
-    let parts = and_parts (is_ascii_lowercase octet) (is_plain_host false octets) is in
+    let parts = and_parts (is_ascii_lowercase octet) (is_plain_domain false octets) is in
     first_step octet (rsplit_once dot octets).0 (rsplit_once dot octets).1 parts.0 (behind_last false octets parts.1)
 behind_last false (octet ∷ octets) is = by (octet == dot) refl (behind_last true octets) (behind_last false octets)
   where
-    by : (b : Bool) → (octet == dot) ≡ b → (is_plain_host true octets ≡ true → IsNamedBehind true (rsplit_once dot octets).0 (rsplit_once dot octets).1) →
-        (is_plain_host false octets ≡ true → IsNamedBehind false (rsplit_once dot octets).0 (rsplit_once dot octets).1) →
+    by : (b : Bool) → (octet == dot) ≡ b → (is_plain_domain true octets ≡ true → IsNamedBehind true (rsplit_once dot octets).0 (rsplit_once dot octets).1) →
+        (is_plain_domain false octets ≡ true → IsNamedBehind false (rsplit_once dot octets).0 (rsplit_once dot octets).1) →
         IsNamedBehind false (rsplit_step dot octet (rsplit_once dot octets).0 (rsplit_once dot octets).1).0 (rsplit_step dot octet (rsplit_once dot octets).0 (rsplit_once dot octets).1).1
     by true at first other =
         dot_step octet (rsplit_once dot octets).0 (rsplit_once dot octets).1 at
-        (first (sym (ap (λ b. if b then is_plain_host true octets else is_label_octet octet && is_plain_host false octets) at) ∙ is))
+        (first (sym (ap (λ b. if b then is_plain_domain true octets else is_label_octet octet && is_plain_domain false octets) at) ∙ is))
     by false at first other =
         other_step octet (rsplit_once dot octets).0 (rsplit_once dot octets).1 at
-        (other (and_parts (is_label_octet octet) (is_plain_host false octets) (sym (ap (λ b. if b then is_plain_host true octets else is_label_octet octet && is_plain_host false octets) at) ∙ is)).1)
+        (other (and_parts (is_label_octet octet) (is_plain_domain false octets) (sym (ap (λ b. if b then is_plain_domain true octets else is_label_octet octet && is_plain_domain false octets) at) ∙ is)).1)
 
 last_named : (front : Option (List ℕ)) (back : List ℕ) → IsNamed back → last_label_of front back ≡ back
 last_named None back named = refl
@@ -177,14 +180,14 @@ not_number text named =
     subst (λ t. ((not (is_empty t) && list_all is_ascii_digit t) || is_number (parse_number t)) ≡ false) (sym named.2)
     (rw (is_empty_nonempty (named.0 ∷ named.1) (omega arith), no_digit, no_number named.0 named.1 named.3) refl)
 
-ends_otherwise : (host : List ℕ) → is_plain_host true host ≡ true → ends_in_a_number host ≡ false
+ends_otherwise : (host : List ℕ) → is_plain_domain true host ≡ true → ends_in_a_number host ≡ false
 unfolding ends_in_a_number
 ends_otherwise host is =
     let named = behind_last true host is in
     ap (λ last. (not (is_empty last) && list_all is_ascii_digit last) || is_number (parse_number last)) (last_named (rsplit_once dot host).0 (rsplit_once dot host).1 named)
     ∙ not_number (rsplit_once dot host).1 named
 
-plain_domain : (host : List ℕ) → is_plain_host true host ≡ true → IsDomain host
+plain_domain : (host : List ℕ) → is_plain_domain true host ≡ true → IsDomain host
 plain_domain host is = record {
   allowed = All-weaker (Passes is_host_octet) (IsKept FORBIDDEN_DOMAIN) host_kept host (host_octets true host is);
   lower = map_fixed to_ascii_lowercase host (All-weaker (Passes is_host_octet) (λ b. to_ascii_lowercase b ≡ b) host_lower host (host_octets true host is));
@@ -256,17 +259,21 @@ plain_segments path is = path_valid true [] [] path (no_segments SpecialNotFile)
 -- ---- the URL
 
 -- the parts of a plain URL
-abbrev parts_of : (host path : List ℕ) → Parts
-parts_of host path = record {
+abbrev parts_of : Host (List ℕ) → Option ℕ → (path : List ℕ) → Parts
+parts_of host port path = record {
   scheme = codes "http";
   username = [];
   password = [];
-  host = Some (Domain host);
-  port = None;
+  host = Some host;
+  port = port;
   path = slash ∷ path;
   query = None;
   fragment = None;
 }
+
+-- those of a text that is one
+abbrev parts_in : (text : List ℕ) (end : ℕ) → IsPlain text end → Parts
+parts_in text end plain = parts_of plain.authority_is.host plain.authority_is.port plain.path
 
 http_scheme : IsUrlScheme (codes "http")
 unfolding scheme_len
@@ -276,78 +283,101 @@ http_kind : scheme_type (codes "http") ≡ SpecialNotFile
 unfolding scheme_type default_port
 http_kind = refl
 
-plain_valid : (host path : List ℕ) → is_plain_host true host ≡ true → is_plain_path true path ≡ true → IsValid (parts_of host path)
-plain_valid host path host_is path_is = record {
+nonempty : (host : List ℕ) → is_plain_domain true host ≡ true → 0 < length host
+nonempty [] is = absurd (true≢false (sym is))
+nonempty (octet ∷ octets) is = omega arith
+
+host_valid : (host : Host (List ℕ)) → IsPlainHost host → IsHostOf SpecialNotFile host
+host_valid (Domain domain) is = (plain_domain domain is, nonempty domain is)
+host_valid (Ipv4 address) is = is
+host_valid (Ipv6 address) is = absurd is
+
+host_full : (host : Host (List ℕ)) → IsPlainHost host → is_empty_host host ≡ false
+host_full (Domain domain) is = is_empty_nonempty domain (nonempty domain is)
+host_full (Ipv4 address) is = refl
+host_full (Ipv6 address) is = absurd is
+
+http_port : default_port (codes "http") ≡ Some 80
+unfolding default_port
+http_port = refl
+
+port_valid : (port : Option ℕ) → IsPlainPort port → IsPortOf (codes "http") port
+port_valid None is = tt
+port_valid (Some n) is = (is.0, λ same. is.1 (ap (λ port. unwrap_or port 0) (sym same ∙ http_port)))
+
+may_have_port : (host : Host (List ℕ)) (port : Option ℕ) (path : List ℕ) → IsPlainHost host → cannot_have_credentials_or_port (parts_of host port path) ≡ false
+may_have_port host port path is = rw (host_full host is, http_kind) refl
+
+plain_valid : (host : Host (List ℕ)) (port : Option ℕ) (path : List ℕ) → IsPlainHost host → IsPlainPort port → is_plain_path true path ≡ true → IsValid (parts_of host port path)
+plain_valid host port path host_is port_is path_is = record {
   head = record {
     scheme = http_scheme;
     username = All-nil (IsKept USERINFO);
     password = All-nil (IsKept USERINFO);
-    host = subst (λ kind. IsHostOf kind (Domain host)) (sym http_kind) (plain_domain host host_is, nonempty host host_is);
-    port = tt;
-    bare = λ _. (refl, refl, refl);
+    host = subst (λ kind. IsHostOf kind host) (sym http_kind) (host_valid host host_is);
+    port = port_valid port port_is;
+    bare = λ cannot. absurd (true≢false (sym cannot ∙ may_have_port host port path host_is));
   };
   path = inl (subst (λ kind. IsHierarchicalPath kind (slash ∷ path)) (sym http_kind) (plain_segments path path_is, λ _. omega arith));
   query = tt;
   fragment = tt;
 }
-  where
-    nonempty : (host : List ℕ) → is_plain_host true host ≡ true → 0 < length host
-    nonempty [] is = absurd (true≢false (sym is))
-    nonempty (octet ∷ octets) is = omega arith
 
-host_is_own : (host path : List ℕ) → host_of_parts (parts_of host path) ≡ host
-host_is_own host path = append-nil host
+target_is_own : (host : Host (List ℕ)) (port : Option ℕ) (path : List ℕ) → target_of_parts (parts_of host port path) ≡ slash ∷ path
+target_is_own host port path = append-nil (slash ∷ path)
 
-target_is_own : (host path : List ℕ) → target_of_parts (parts_of host path) ≡ slash ∷ path
-target_is_own host path = append-nil (slash ∷ path)
+host_is_own : (text : List ℕ) (end : ℕ) → (plain : IsPlain text end) → host_of_parts (parts_in text end plain) ≡ plain.authority
+host_is_own text end plain = sym plain.authority_is.spelled
 
-plain_text : (host path : List ℕ) → page_of_parts (parts_of host path) ≡ codes "http://" ++ (host ++ slash ∷ path)
-plain_text host path =
-    page_pieces false (parts_of host path) refl refl refl refl ∙ ap (λ h. codes "http://" ++ (h ++ target_of_parts (parts_of host path))) (host_is_own host path)
-    ∙ ap (λ t. codes "http://" ++ (host ++ t)) (target_is_own host path)
+plain_spelled : (text : List ℕ) (end : ℕ) → (plain : IsPlain text end) → page_of_parts (parts_in text end plain) ≡ text
+plain_spelled text end plain =
+    page_pieces false (parts_in text end plain) refl refl refl refl ∙ ap (λ h. codes "http://" ++ (h ++ target_of_parts (parts_in text end plain))) (host_is_own text end plain)
+    ∙ ap (λ t. codes "http://" ++ (plain.authority ++ t)) (target_is_own plain.authority_is.host plain.authority_is.port plain.path) ∙ sym plain.spelled
 
 http_read : (schemes : Schemes) → reads schemes (codes "http") ≡ true
 http_read Http = refl
 http_read HttpAndHttps = refl
 
-plain_faultless : (schemes : Schemes) (text : List ℕ) (end : ℕ) → (plain : IsPlain text end) → length text ≤ max_url → IsFaultless schemes (parts_of plain.host plain.path)
+plain_faultless : (schemes : Schemes) (text : List ℕ) (end : ℕ) → (plain : IsPlain text end) → length text ≤ max_url → IsFaultless schemes (parts_in text end plain)
 plain_faultless schemes text end plain short = record {
-  parts = record { valid = plain_valid plain.host plain.path plain.host_is plain.path_is; scheme = inl refl; username = refl; password = refl };
+  parts = record {
+    valid = plain_valid plain.authority_is.host plain.authority_is.port plain.path plain.authority_is.host_is plain.authority_is.port_is plain.path_is;
+    scheme = inl refl;
+    username = refl;
+    password = refl;
+  };
   is_read = http_read schemes;
-  limit = subst (λ t. length t ≤ max_url) (plain.spelled ∙ sym (plain_text plain.host plain.path)) short;
-  authority_limit = subst (λ h. length h ≤ max_authority) (sym (host_is_own plain.host plain.path)) plain.limit;
+  limit = subst (λ t. length t ≤ max_url) (sym (plain_spelled text end plain)) short;
+  authority_limit = subst (λ h. length h ≤ max_authority) (sym (host_is_own text end plain)) plain.limit;
 }
-
-plain_spelled : (text : List ℕ) (end : ℕ) → (plain : IsPlain text end) → page_of_parts (parts_of plain.host plain.path) ≡ text
-plain_spelled text end plain = plain_text plain.host plain.path ∙ sym plain.spelled
 
 pub plain_page : (text : List ℕ) (end : ℕ) → IsPlain text end → length text ≤ max_url → IsAscii text → IsPage text
 plain_page text end plain short ascii =
     let spelled = plain_spelled text end plain in
-    subst IsPage spelled (faultless_page Http (parts_of plain.host plain.path) (plain_faultless Http text end plain short) (subst IsAscii (sym spelled) ascii))
+    subst IsPage spelled (faultless_page Http (parts_in text end plain) (plain_faultless Http text end plain short) (subst IsAscii (sym spelled) ascii))
 
 pub plain_splits : (text : List ℕ) (end : ℕ) → IsPlain text end → length text ≤ max_url → (7 ≡ host_start text) × (end ≡ host_start text + length (host_of text)) × (drop end text ≡ target_of text)
 plain_splits text end plain short =
     let spelled = plain_spelled text end plain in
-    let splits = subst (λ page. Splits page (parts_of plain.host plain.path)) spelled (faultless_splits Http (parts_of plain.host plain.path) (plain_faultless Http text end plain short)) in
+    let splits = subst (λ page. Splits page (parts_in text end plain)) spelled (faultless_splits Http (parts_in text end plain) (plain_faultless Http text end plain short)) in
     let start : 7 ≡ host_start text = sym (ap (λ b. if b then 8 else 7) splits.https) in
-    let host : host_of text ≡ plain.host = splits.parts.host ∙ host_is_own plain.host plain.path in
-    let at : end ≡ host_start text + length (host_of text) = plain.end_is ∙ ap (λ n. n + length plain.host) start ∙ ap (λ h. host_start text + length h) (sym host) in
+    let host : host_of text ≡ plain.authority = splits.parts.host ∙ host_is_own text end plain in
+    let at : end ≡ host_start text + length (host_of text) = plain.end_is ∙ ap (λ n. n + length plain.authority) start ∙ ap (λ h. host_start text + length h) (sym host) in
     (start, at, ap (λ n. drop n text) at ∙ sym (drop-drop (length (host_of text)) (host_start text) text))
 
 pub plain_reads : (schemes : Schemes) (text : List ℕ) (end : ℕ) → IsPlain text end → length text ≤ max_url → page_url_among schemes None text Enough ≡ Ok text
 plain_reads schemes text end plain short =
     let faultless = plain_faultless schemes text end plain short in
     let spelled = plain_spelled text end plain in
-    page_reads_as_itself schemes (parts_of plain.host plain.path) text faultless.parts.valid faultless.parts.scheme spelled (faultless_reads schemes (parts_of plain.host plain.path) faultless ∙ ap Ok spelled) short
+    page_reads_as_itself schemes (parts_in text end plain) text faultless.parts.valid faultless.parts.scheme spelled (faultless_reads schemes (parts_in text end plain) faultless ∙ ap Ok spelled) short
 
 pub plain_parsed : (text : List ℕ) (end : ℕ) → IsPlain text end → length text ≤ max_url → (url : Parts) × (parse_url None text ≡ Ok url) × HasPartsOf text url
 plain_parsed text end plain short =
     let spelled = plain_spelled text end plain in
     let faultless = plain_faultless Http text end plain short in (
-      parts_of plain.host plain.path,
-      ap (parse_url None) (sym spelled) ∙ parse_url-serialize_special (parts_of plain.host plain.path) None faultless.parts.valid http_kind,
-      (subst (λ page. Splits page (parts_of plain.host plain.path)) spelled (faultless_splits Http (parts_of plain.host plain.path) faultless)).parts,
+      parts_in text end plain,
+      ap (parse_url None) (sym spelled) ∙ parse_url-serialize_special (parts_in text end plain) None faultless.parts.valid http_kind,
+      (subst (λ page. Splits page (parts_in text end plain)) spelled (faultless_splits Http (parts_in text end plain) faultless)).parts,
     )
 
 -- ---- its octets are ASCII
@@ -367,11 +397,30 @@ path_all P at_slash at begins (octet ∷ octets) is = by (octet == slash) refl (
 small_start : All (λ octet. octet < 128) (codes "http://")
 small_start = search (arith, All-cons, All-nil)
 
+digit_small : (octet : ℕ) → IsInRange 48 57 octet → octet < 128
+digit_small octet is = grind arith
+
+port_small : (port : Option ℕ) → IsPlainPort port → All (λ octet. octet < 128) (port_text port)
+port_small None is = All-nil (λ octet. octet < 128)
+port_small (Some n) is =
+    All-cons (λ octet. octet < 128) 58 (decimal n) (omega arith)
+    (All-weaker (IsInRange 48 57) (λ octet. octet < 128) digit_small (decimal n) (All-decimal n (omega (arith, is.0))))
+
+byte_small : (octet : ℕ) → IsHostByte octet → octet < 128
+byte_small octet is = omega (arith, is.below)
+
+authority_small : (authority : List ℕ) → IsPlainAuthority authority → All (λ octet. octet < 128) authority
+authority_small authority is =
+    subst (All (λ octet. octet < 128)) (sym is.spelled)
+    (All-append (λ octet. octet < 128) (host_text is.host) (port_text is.port)
+    (All-weaker IsHostByte (λ octet. octet < 128) byte_small (host_text is.host) (host_text_plain SpecialNotFile is.host (host_valid is.host is.host_is)))
+    (port_small is.port is.port_is))
+
 pub plain_ascii : (text : List ℕ) (end : ℕ) → IsPlain text end → IsAscii text
 plain_ascii text end plain =
     IsAscii-from_all text (subst (All (λ octet. octet < 128)) (sym plain.spelled)
-    (All-append (λ octet. octet < 128) (codes "http://") (plain.host ++ slash ∷ plain.path) small_start
-    (All-append (λ octet. octet < 128) plain.host (slash ∷ plain.path) (All-weaker (Passes is_host_octet) (λ octet. octet < 128) host_small plain.host (host_octets true plain.host plain.host_is))
+    (All-append (λ octet. octet < 128) (codes "http://") (plain.authority ++ slash ∷ plain.path) small_start
+    (All-append (λ octet. octet < 128) plain.authority (slash ∷ plain.path) (authority_small plain.authority plain.authority_is)
     (All-cons (λ octet. octet < 128) slash plain.path (omega arith) (path_all (λ octet. octet < 128) (omega arith) unreserved_small true plain.path plain.path_is)))))
 
 -- ---- its target is in normal form
@@ -391,7 +440,7 @@ fixed_form text all =
 pub plain_form : (text : List ℕ) (end : ℕ) → IsPlain text end → length text ≤ max_url → target_of text ≡ normal_path (target_of text)
 plain_form text end plain short =
     let spelled = plain_spelled text end plain in
-    let splits = subst (λ page. Splits page (parts_of plain.host plain.path)) spelled (faultless_splits Http (parts_of plain.host plain.path) (plain_faultless Http text end plain short)) in
-    let target : slash ∷ plain.path ≡ target_of text = sym (splits.parts.target ∙ target_is_own plain.host plain.path) in
+    let splits = subst (λ page. Splits page (parts_in text end plain)) spelled (faultless_splits Http (parts_in text end plain) (plain_faultless Http text end plain short)) in
+    let target : slash ∷ plain.path ≡ target_of text = sym (splits.parts.target ∙ target_is_own plain.authority_is.host plain.authority_is.port plain.path) in
     subst (λ t. t ≡ normal_path t) target
     (sym (fixed_form (slash ∷ plain.path) (All-cons IsFixed slash plain.path refl (path_all IsFixed refl unreserved_fixed true plain.path plain.path_is))))

@@ -8,6 +8,7 @@ pub mod laws;
 mod normal;
 mod page;
 mod page_url;
+mod plain_host;
 mod plain_url;
 mod schemes;
 

@@ -1,19 +1,20 @@
 //! Plain `http` URLs, which the URL Standard writes unchanged, found in one pass.
-//! URL Standard, sections 3.3 and 4.4. Used by `page_url`, which has all other URLs parsed.
+//! URL Standard, section 4.4. Used by `page_url`, which has all other URLs parsed.
 ghost use Rattle.std.specs.Prelude.{◌≡◌, ◌<◌, ◌++◌, IfSome, codes, length, true};
 ghost use Rattle.std.specs.List.{position};
-ghost use Rattle.path_normal.specs.PlainUrl.{IsPlain, is_label_octet, is_plain_host, is_plain_path, is_slash};
+ghost use Rattle.path_normal.specs.PlainUrl.{IsPlain, is_plain_path, is_slash};
 
 use crate::normal::is_unreserved;
 use crate::page_url::MAX_AUTHORITY;
+use crate::plain_host::is_plain_authority;
 
-/// The end of the host, if the text is a plain URL.
+/// The end of the host with its port, if the text is a plain URL.
 pub(crate) fn plain_host_end(text: &str) -> Option<usize>
     ensures { IfSome result (IsPlain text.now) }
 {
     let rest = behind_start(text.as_bytes())?;
     let len = slash_place(rest)?;
-    if len <= MAX_AUTHORITY && is_plain_host(&rest[..len]) && is_plain_path(&rest[len + 1..]) {
+    if len <= MAX_AUTHORITY && is_plain_authority(&rest[..len]) && is_plain_path(&rest[len + 1..]) {
         Some("http://".len() + len)
     } else {
         None
@@ -34,32 +35,6 @@ fn slash_place(text: &[u8]) -> Option<usize>
     ensures within { IfSome result (λ place. place < length text.now) }
 {
     text.iter().position(|octet| *octet == b'/')
-}
-
-// Whether the octets are a domain whose labels begin with letters.
-fn is_plain_host(host: &[u8]) -> bool
-    ensures { result ≡ is_plain_host true host.now }
-{
-    let mut begins = true;
-    for octet in host {
-        if begins {
-            if !octet.is_ascii_lowercase() {
-                return false;
-            }
-            begins = false;
-        } else if *octet == b'.' {
-            begins = true;
-        } else if !is_label_octet(*octet) {
-            return false;
-        }
-    }
-    !begins
-}
-
-fn is_label_octet(octet: u8) -> bool
-    ensures { result ≡ is_label_octet octet }
-{
-    octet.is_ascii_lowercase() || octet.is_ascii_digit() || octet == b'-'
 }
 
 // Whether the octets after the first `/` are a path without dot segments.
