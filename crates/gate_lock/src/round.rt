@@ -68,10 +68,16 @@ impl Last {
 }
 
 // The book, and the ledgers whose totals are its numbers.
-#[derive(Drop)]
 pub(crate) struct Round<G: Gate> {
     book: Book,
     tally: Tally<G>,
+}
+
+// Let go by one call: no crate above proves anew how its parts end.
+impl<G: Gate> Drop for Round<G> {
+    fn drop(self) {
+        let Round { book: _, tally: _ } = self;
+    }
 }
 
 impl<G: Gate> Model for Round<G> {

@@ -24,10 +24,19 @@ enum Spares {
 }
 
 /// The shared policy of an answer, and up to two spare handles.
-#[derive(Drop)]
 pub struct Rules {
     policy: Arc<Policy>,
     spares: Spares,
+}
+
+// Let go by one call: no crate above proves anew how its parts end.
+impl Drop for Rules {
+    fn drop(self) {
+        let Rules {
+            policy: _,
+            spares: _,
+        } = self;
+    }
 }
 
 impl Model for Rules {
@@ -109,9 +118,8 @@ impl Rules {
     pub(crate) fn into_handle(self) -> PolicyHandle
         ensures { result ≡ self.text }
     {
-        PolicyHandle {
-            policy: self.policy,
-        }
+        let Rules { policy, spares: _ } = self;
+        PolicyHandle { policy }
     }
 
     /// Makes an index, if it pays and memory suffices.
@@ -147,7 +155,7 @@ impl Rules {
             return;
         }
         if let Ok(rules) = Rules::of(policy) {
-            *self = rules;
+            drop(mem::replace(self, rules));
         }
     }
 
