@@ -23,6 +23,9 @@ use Rattle.program_arguments.specs.declared.subcommand.ServeOptions.{ServeOption
 use Rattle.program_arguments.specs.declared.subcommand.ShiftOptions.{ShiftOptions}
 use Rattle.program_arguments.specs.declared.subcommand.Subcommand.{Subcommand}
 use Rattle.program_arguments.specs.declared.subcommand.Subcommand.TheVariants.{Replay, Export, Lines, Check, Audit, Shift, Serve}
+use Rattle.program_arguments.specs.declared.numbers.ClientBounds.{ClientBounds}
+use Rattle.program_arguments.specs.declared.numbers.ServeNumbers.{ServeNumbers}
+use Rattle.program_arguments.specs.declared.numbers.ShiftNumbers.{ShiftNumbers}
 use Rattle.program_arguments.specs.declared.words.Chosen.{Chosen}
 use Rattle.program_arguments.specs.declared.words.Chosen.TheVariants.{Taken, Refused}
 use Rattle.robots_check.specs.declared.detail.Detail.{Detail}
@@ -139,6 +142,20 @@ pub record AreBadJobsOf (words : Found) (asked : BadJobs) : Type 0 where
   pub skip : one_text words (codes "skip") ≡ Some (codes "true") → asked ≡ bad_jobs.Skip
   pub end : one_text words (codes "skip") ≡ Some (codes "false") → asked ≡ bad_jobs.End
 
+-- the numbers of a shift are in their ranges
+pub record AreShiftNumbers (numbers : ShiftNumbers) : Type 0 where
+  pub crew : IsCrew numbers.workers
+  pub delay : IsDelay numbers.delay
+  pub limits : AreLimits numbers.limits
+  pub times : AreWithin numbers.times
+
+-- the numbers of a shift are those matched
+pub record AreShiftNumbersOf (words : Found) (numbers : ShiftNumbers) : Type 0 where
+  pub workers : IsNumberOf words (codes "workers") numbers.workers
+  pub delay : IsNumberOf words (codes "delay") numbers.delay
+  pub limits : AreLimitsOf words numbers.limits
+  pub times : AreTimesOf words numbers.times
+
 -- the options of a shift are those matched
 pub record AreShiftOf (words : Found) (options : ShiftOptions) : Type 0 where
   pub reach : IsReachOf words options.reach
@@ -175,6 +192,35 @@ IsSealPortOf words (Some port) = IsNumberOf words (codes "seal-port") port
 abbrev pub IsAheadOf : Found → Ahead → Type 0
 IsAheadOf words aheads.Unbounded = first_value words (codes "ahead") ≡ None
 IsAheadOf words (aheads.Seconds seconds) = IsNumberOf words (codes "ahead") seconds
+
+-- what one client of a server may have is within the limits
+pub record AreClientBounds (bounds : ClientBounds) : Type 0 where
+  pub patience : IsPatience bounds.patience
+  pub ahead : IsAllowedAhead bounds.ahead
+
+-- what one client of a server may have is as matched
+pub record AreClientBoundsOf (words : Found) (bounds : ClientBounds) : Type 0 where
+  pub patience : IsNumberOf words (codes "patience") bounds.patience
+  pub ahead : IsAheadOf words bounds.ahead
+  pub client_permits : IsBoundOf words (codes "client-permits") bounds.client_permits
+  pub client_authorities : IsBoundOf words (codes "client-authorities") bounds.client_authorities
+
+-- the numbers of a server are in their ranges
+pub record AreServeNumbers (numbers : ServeNumbers) : Type 0 where
+  pub crew : IsCrew numbers.workers
+  pub connections : AreServed numbers.connections
+  pub limits : AreLimits numbers.limits
+  pub times : AreWithin numbers.times
+  pub clients : AreClientBounds numbers.clients
+
+-- the numbers of a server are those matched
+pub record AreServeNumbersOf (words : Found) (numbers : ServeNumbers) : Type 0 where
+  pub seal_port : IsSealPortOf words numbers.seal_port
+  pub workers : IsNumberOf words (codes "workers") numbers.workers
+  pub connections : AreConnectionsOf words numbers.connections
+  pub limits : AreLimitsOf words numbers.limits
+  pub times : AreTimesOf words numbers.times
+  pub clients : AreClientBoundsOf words numbers.clients
 
 -- the options of a server are those matched
 pub record AreServeOf (words : Found) (options : ServeOptions) : Type 0 where

@@ -2,15 +2,18 @@
 //! See docs/crawlgate.1.md.
 #![tactic(auto)]
 
+mod arguments;
 mod checked;
 mod command;
 mod contact;
 mod help;
 mod journal;
+mod number_arguments;
 mod number_options;
 mod numbers;
 mod subcommand;
 mod tls;
+mod word_arguments;
 mod words;
 
 pub use subcommand::{

@@ -5,11 +5,12 @@ ghost use Rattle.permit_book.specs.Numbers.{last_generation};
 ghost use Rattle.gate_core.specs.Limits.{AreLimits};
 ghost use Rattle.clap.specs.Words.{found_of};
 ghost use Rattle.client_connections.specs.Accepts.{AreServed};
-ghost use Rattle.program_arguments.specs.Options.{AreConnectionsOf, AreLimitsOf, AreTimesOf, IsAheadOf, IsAllowedAhead, IsBoundOf, IsNumberOf};
+ghost use Rattle.program_arguments.specs.Options.{AreClientBounds, AreClientBoundsOf, AreConnectionsOf, AreLimitsOf, AreServeNumbers, AreServeNumbersOf, AreShiftNumbers, AreShiftNumbersOf, AreTimesOf, IsAheadOf, IsAllowedAhead, IsBoundOf, IsNumberOf, IsSealPortOf};
 ghost use Rattle.http_client.specs.TimeLimits.{AreWithin};
 
 use crate::number_options::{
-    AHEAD, AUTHORITIES, CONNECT, CONNECTIONS, FETCH, LOG, NumberOption, PLACES, READ, SLOTS,
+    AHEAD, AUTHORITIES, CLIENT_AUTHORITIES, CLIENT_PERMITS, CLIENTS, CONNECT, CONNECTIONS, DELAY,
+    FETCH, JOBS, LOG, NumberOption, PATIENCE, PLACES, READ, SEAL_PORT, SLOTS,
 };
 use crate::subcommand::Ahead;
 use clap::ArgMatches;
@@ -97,4 +98,83 @@ pub(crate) fn connections_of(matches: &ArgMatches<'_>) -> Option<Connections>
     } else {
         Some(Connections::AtMost(count))
     }
+}
+
+/// What one client of a server may have.
+#[derive(Clone, Copy)]
+pub(crate) struct ClientBounds {
+    pub(crate) patience: u64,
+    pub(crate) ahead: Ahead,
+    pub(crate) client_permits: u64,
+    pub(crate) client_authorities: u64,
+}
+
+/// The bounds of each client from the options, if in range.
+pub(crate) fn client_bounds_of(matches: &ArgMatches<'_>) -> Option<ClientBounds>
+    ensures range { IfSome result AreClientBounds }
+    ensures words { IfSome result (AreClientBoundsOf (found_of matches.now)) }
+{
+    Some(ClientBounds {
+        patience: number_of(matches, PATIENCE)?,
+        ahead: ahead_of(matches)?,
+        client_permits: bound_of(matches, CLIENT_PERMITS)?,
+        client_authorities: bound_of(matches, CLIENT_AUTHORITIES)?,
+    })
+}
+
+fn seal_port_of(matches: &ArgMatches<'_>) -> Option<Option<u16>>
+    ensures { IfSome result (IsSealPortOf (found_of matches.now)) }
+{
+    match matches.get_str("seal-port") {
+        Some(_) => Some(Some(port_of(matches, SEAL_PORT)?)),
+        None => Some(None),
+    }
+}
+
+/// The options of a shift that are numbers.
+#[derive(Clone, Copy)]
+pub(crate) struct ShiftNumbers {
+    pub(crate) workers: u64,
+    pub(crate) delay: u64,
+    pub(crate) limits: Limits,
+    pub(crate) times: TimeLimits,
+}
+
+/// The numbers of a shift from the options, if in range.
+pub(crate) fn shift_numbers_of(matches: &ArgMatches<'_>) -> Option<ShiftNumbers>
+    ensures range { IfSome result AreShiftNumbers }
+    ensures words { IfSome result (AreShiftNumbersOf (found_of matches.now)) }
+{
+    Some(ShiftNumbers {
+        workers: number_of(matches, JOBS)?,
+        delay: number_of(matches, DELAY)?,
+        limits: limits_of(matches, Limits::usual().first_generation)?,
+        times: times_of(matches)?,
+    })
+}
+
+/// The options of a server that are numbers.
+#[derive(Clone, Copy)]
+pub(crate) struct ServeNumbers {
+    pub(crate) seal_port: Option<u16>,
+    pub(crate) workers: u64,
+    pub(crate) connections: Connections,
+    pub(crate) limits: Limits,
+    pub(crate) times: TimeLimits,
+    pub(crate) clients: ClientBounds,
+}
+
+/// The numbers of a server from the options, if in range.
+pub(crate) fn serve_numbers_of(matches: &ArgMatches<'_>) -> Option<ServeNumbers>
+    ensures range { IfSome result AreServeNumbers }
+    ensures words { IfSome result (AreServeNumbersOf (found_of matches.now)) }
+{
+    Some(ServeNumbers {
+        seal_port: seal_port_of(matches)?,
+        workers: number_of(matches, CLIENTS)?,
+        connections: connections_of(matches)?,
+        limits: limits_of(matches, Limits::usual().first_generation)?,
+        times: times_of(matches)?,
+        clients: client_bounds_of(matches)?,
+    })
 }

@@ -4,18 +4,16 @@ ghost use Rattle.std.specs.Prelude.{◌≡◌, IfOk, IfSome};
 ghost use Rattle.clap.specs.Words.{found_of};
 ghost use Rattle.program_arguments.specs.Contacts.{IsAllowedContact, IsContactOf};
 ghost use Rattle.program_arguments.specs.Journals.{IsJournalOf};
-ghost use Rattle.program_arguments.specs.Options.{AreBadJobsOf, AreNotesOf, AreSchemesOf, IsChosen, IsChosenBy, IsInRange, IsPlaceOf, IsReachOf, IsSealPortOf, IsSetBy};
+ghost use Rattle.program_arguments.specs.Options.{AreBadJobsOf, AreNotesOf, AreSchemesOf, IsChosen, IsChosenBy, IsInRange, IsPlaceOf, IsReachOf, IsSetBy};
 ghost use Rattle.program_arguments.specs.Tls.{IsLoopback, IsTlsByOf};
 
+use crate::arguments::{SUBCOMMANDS, SubcommandArguments, texts};
 use crate::checked::check_of;
 use crate::command::program;
 use crate::contact::contact_of;
 use crate::journal::{NoSync, journal_of, sync_of};
-use crate::number_options::{
-    CLIENT_AUTHORITIES, CLIENT_PERMITS, CLIENTS, DELAY, GENERATION, JOBS, OptionTexts, PATIENCE,
-    PORT, SEAL_PORT,
-};
-use crate::numbers::{ahead_of, bound_of, connections_of, limits_of, number_of, port_of, times_of};
+use crate::number_options::{GENERATION, PORT};
+use crate::numbers::{limits_of, number_of, port_of, serve_numbers_of, shift_numbers_of};
 use crate::subcommand::{
     BadJobs, Contact, JournalOptions, ListenAddress, Notes, ReplayOptions, ServeOptions,
     ShiftOptions, ShiftOutput, Subcommand,
@@ -23,7 +21,6 @@ use crate::subcommand::{
 use crate::tls::{NotLoopback, tls_by_of};
 use clap::error::ErrorKind;
 use clap::{ArgMatches, Command, Error};
-use gate_core::Limits;
 use http_client::Reach;
 use path_normal::Schemes;
 use std::alloc::{AllocError, Global};
@@ -58,8 +55,19 @@ pub(crate) enum Chosen {
 pub fn options<'a>(alloc: Global, words: &'a [&'a str]) -> Result<Subcommand, Error>
     ensures { IfOk result IsInRange }
 {
-    let texts = OptionTexts::new(alloc)?;
-    let mut program = program(alloc, &texts)?;
+    options_of(alloc, &SUBCOMMANDS, words)
+}
+
+// (The table is long: the proof of each function that names it holds all of it.)
+fn options_of<'a>(
+    alloc: Global,
+    subcommands: &[SubcommandArguments],
+    words: &'a [&'a str],
+) -> Result<Subcommand, Error>
+    ensures { IfOk result IsInRange }
+{
+    let texts = texts(alloc, subcommands)?;
+    let mut program = program(alloc, subcommands, texts.as_slice())?;
     read_words(alloc, &mut program, words)
 }
 
@@ -86,19 +94,19 @@ fn chosen_by<'a>(
     ensures { IfOk result IsChosen }
 {
     let matches = program.try_get_matches_from_mut(words)?;
-    if let Some(("check", check)) = matches.subcommand() {
-        return Ok(check_of(alloc, check)?);
+    Ok(chosen_of(alloc, &matches, words)?)
+}
+
+fn chosen_of(alloc: Global, matches: &ArgMatches<'_>, words: &[&str]) -> Result<Chosen, AllocError>
+    ensures { IfOk result IsChosen }
+{
+    match matches.subcommand() {
+        Some(("check", check)) => check_of(alloc, check),
+        _ if has_sign(words) => Ok(Chosen::Refused(BAD_NUMBER)),
+        Some(("serve", serve)) => serve_of(alloc, serve),
+        Some(("shift", shift)) => shift_of(alloc, shift),
+        _ => Ok(piped_of(matches)),
     }
-    if has_sign(words) {
-        return Ok(Chosen::Refused(BAD_NUMBER));
-    }
-    if let Some(("serve", serve)) = matches.subcommand() {
-        return Ok(serve_of(alloc, serve)?);
-    }
-    if let Some(("shift", shift)) = matches.subcommand() {
-        return Ok(shift_of(alloc, shift)?);
-    }
-    Ok(chosen_of(&matches))
 }
 
 // Whether an argument, or its part after `=`, begins with a plus sign. (Rust reads `+5` as a number.) A
@@ -115,8 +123,8 @@ fn has_sign(words: &[&str]) -> bool {
     false
 }
 
-// `clap` has refused numbers out of range.
-fn chosen_of(matches: &ArgMatches<'_>) -> Chosen
+// One of the subcommands that only read and write. `clap` has refused numbers out of range.
+fn piped_of(matches: &ArgMatches<'_>) -> Chosen
     ensures { IsChosen result }
 {
     match subcommand_of(matches) {
@@ -233,11 +241,12 @@ fn shift_by(
     ensures range { IfSome result IsInRange }
     ensures words { IfSome result (IsSetBy (found_of matches.now)) }
 {
+    let numbers = shift_numbers_of(matches)?;
     Some(Subcommand::Shift(ShiftOptions {
-        workers: number_of(matches, JOBS)?,
-        delay: number_of(matches, DELAY)?,
-        limits: limits_of(matches, Limits::usual().first_generation)?,
-        times: times_of(matches)?,
+        workers: numbers.workers,
+        delay: numbers.delay,
+        limits: numbers.limits,
+        times: numbers.times,
         reach: reach_of(matches),
         tls_by,
         contact,
@@ -304,20 +313,21 @@ fn served_at(
     ensures range { IfSome result IsInRange }
     ensures words { IfSome result (IsSetBy (found_of matches.now)) }
 {
+    let numbers = serve_numbers_of(matches)?;
     Some(Subcommand::Serve(ServeOptions {
         place,
-        seal_port: seal_port_of(matches)?,
-        workers: number_of(matches, CLIENTS)?,
-        connections: connections_of(matches)?,
-        limits: limits_of(matches, Limits::usual().first_generation)?,
-        times: times_of(matches)?,
+        seal_port: numbers.seal_port,
+        workers: numbers.workers,
+        connections: numbers.connections,
+        limits: numbers.limits,
+        times: numbers.times,
         reach: reach_of(matches),
         tls_by,
         contact,
-        patience: number_of(matches, PATIENCE)?,
-        ahead: ahead_of(matches)?,
-        client_permits: bound_of(matches, CLIENT_PERMITS)?,
-        client_authorities: bound_of(matches, CLIENT_AUTHORITIES)?,
+        patience: numbers.clients.patience,
+        ahead: numbers.clients.ahead,
+        client_permits: numbers.clients.client_permits,
+        client_authorities: numbers.clients.client_authorities,
         journal,
     }))
 }
@@ -339,15 +349,6 @@ fn is_path(path: &str) -> bool {
     !path.is_empty()
         && path.len() <= MAX_PATH
         && !path.bytes().any(|octet| octet.is_ascii_control())
-}
-
-fn seal_port_of(matches: &ArgMatches<'_>) -> Option<Option<u16>>
-    ensures { IfSome result (IsSealPortOf (found_of matches.now)) }
-{
-    match matches.get_str("seal-port") {
-        Some(_) => Some(Some(port_of(matches, SEAL_PORT)?)),
-        None => Some(None),
-    }
 }
 
 fn reach_of(matches: &ArgMatches<'_>) -> Reach

@@ -1,0 +1,180 @@
+//! The subcommands with their arguments, in the order of the help, and the texts that the help has of these.
+//! The command is built by this table; docs/crawlgate.1.md describes it.
+use crate::help;
+use crate::number_arguments::{
+    AHEAD, AUTHORITIES, CLIENT_AUTHORITIES, CLIENT_PERMITS, CLIENTS, CONNECT, CONNECTIONS, DELAY,
+    FETCH, GENERATION, JOBS, LOG, NumberArgument, PATIENCE, PLACES, PORT, READ, SEAL_PORT, SLOTS,
+};
+use crate::word_arguments::{
+    CONTACT, ENDLESS, EXPLAIN, EXPORT, EXPORT_OF_SHIFT, HTTPS, HTTPS_PAGES, JOURNAL,
+    JOURNAL_OF_SHIFT, JOURNAL_SYNC, NOTES, PUBLIC, ROBOTS, SKIP, SOCKET, TLS_BY, TOKEN, TSV, URL,
+    WordArgument,
+};
+use std::alloc::{AllocError, Global};
+
+/// An argument of a subcommand.
+#[derive(Clone, Copy)]
+pub(crate) enum Argument {
+    Number(NumberArgument),
+    Word(WordArgument),
+}
+
+/// A subcommand, its help and its arguments.
+#[derive(Clone, Copy)]
+pub(crate) struct SubcommandArguments {
+    pub(crate) name: &'static str,
+    pub(crate) about: &'static str,
+    /// The help behind its arguments.
+    pub(crate) lines: &'static str,
+    pub(crate) arguments: &'static [Argument],
+}
+
+/// The subcommands, in the order of the help.
+pub(crate) const SUBCOMMANDS: [SubcommandArguments; 6] = [
+    REPLAY, SHIFT, SERVE, CHECK, LINES, AUDIT,
+];
+
+const REPLAY: SubcommandArguments = SubcommandArguments {
+    name: "replay",
+    about: "Answers the lines of standard input, one reply a line",
+    lines: help::REPLAY,
+    arguments: &[
+        Argument::Number(SLOTS),
+        Argument::Number(LOG),
+        Argument::Number(AUTHORITIES),
+        Argument::Number(PLACES),
+        Argument::Number(GENERATION),
+        Argument::Word(HTTPS),
+        Argument::Word(EXPORT),
+    ],
+};
+
+const SHIFT: SubcommandArguments = SubcommandArguments {
+    name: "shift",
+    about: "Fetches the pages of the jobs on standard input, and writes what came of them",
+    lines: help::SHIFT,
+    arguments: &[
+        Argument::Number(SLOTS),
+        Argument::Number(LOG),
+        Argument::Number(AUTHORITIES),
+        Argument::Number(PLACES),
+        Argument::Number(JOBS),
+        Argument::Number(DELAY),
+        Argument::Number(CONNECT),
+        Argument::Number(READ),
+        Argument::Number(FETCH),
+        Argument::Word(PUBLIC),
+        Argument::Word(TLS_BY),
+        Argument::Word(CONTACT),
+        Argument::Word(EXPORT_OF_SHIFT),
+        Argument::Word(TSV),
+        Argument::Word(SKIP),
+        Argument::Word(JOURNAL_OF_SHIFT),
+        Argument::Word(JOURNAL_SYNC),
+    ],
+};
+
+const SERVE: SubcommandArguments = SubcommandArguments {
+    name: "serve",
+    about: "Answers clients of this machine that connect to a port of 127.0.0.1 or to a socket, a reply a line",
+    lines: help::SERVE,
+    arguments: &[
+        Argument::Number(PORT),
+        Argument::Word(SOCKET),
+        Argument::Number(SEAL_PORT),
+        Argument::Number(CLIENTS),
+        Argument::Number(CONNECTIONS),
+        Argument::Number(SLOTS),
+        Argument::Number(LOG),
+        Argument::Number(AUTHORITIES),
+        Argument::Number(PLACES),
+        Argument::Number(CONNECT),
+        Argument::Number(READ),
+        Argument::Number(FETCH),
+        Argument::Word(PUBLIC),
+        Argument::Word(TLS_BY),
+        Argument::Word(CONTACT),
+        Argument::Word(JOURNAL),
+        Argument::Word(JOURNAL_SYNC),
+        Argument::Number(PATIENCE),
+        Argument::Number(AHEAD),
+        Argument::Number(CLIENT_PERMITS),
+        Argument::Number(CLIENT_AUTHORITIES),
+        Argument::Word(ENDLESS),
+    ],
+};
+
+const CHECK: SubcommandArguments = SubcommandArguments {
+    name: "check",
+    about: "Says of URLs whether a robots.txt allows them, and by which line",
+    lines: help::CHECK,
+    arguments: &[
+        Argument::Word(TOKEN),
+        Argument::Word(URL),
+        Argument::Word(ROBOTS),
+        Argument::Word(EXPLAIN),
+    ],
+};
+
+const LINES: SubcommandArguments = SubcommandArguments {
+    name: "lines",
+    about: "Writes what each line of the robots.txt on standard input says",
+    lines: help::LINES,
+    arguments: &[Argument::Word(NOTES)],
+};
+
+const AUDIT: SubcommandArguments = SubcommandArguments {
+    name: "audit",
+    about: "Checks every decision in the history, or in the segments, on standard input",
+    lines: help::AUDIT,
+    arguments: &[Argument::Word(HTTPS_PAGES)],
+};
+
+/// The help's text of an argument, and its default, if any.
+#[derive(Drop)]
+pub(crate) struct ArgumentText {
+    pub(crate) about: String,
+    pub(crate) usual: Option<String>,
+}
+
+/// The texts of all arguments, a list for each subcommand.
+pub(crate) fn texts(
+    alloc: Global,
+    subcommands: &[SubcommandArguments],
+) -> Result<Vec<Vec<ArgumentText>>, AllocError> {
+    let mut texts = Vec::new(alloc);
+    for subcommand in subcommands {
+        texts.push(texts_of(alloc, subcommand.arguments)?)?;
+    }
+    Ok(texts)
+}
+
+fn texts_of(alloc: Global, arguments: &[Argument]) -> Result<Vec<ArgumentText>, AllocError> {
+    let mut texts = Vec::new(alloc);
+    for argument in arguments {
+        texts.push(text_of(alloc, argument)?)?;
+    }
+    Ok(texts)
+}
+
+fn text_of(alloc: Global, argument: &Argument) -> Result<ArgumentText, AllocError> {
+    match argument {
+        Argument::Number(number) => number_text(alloc, *number),
+        Argument::Word(word) => Ok(ArgumentText {
+            about: String::from_str(alloc, word.about)?,
+            usual: None,
+        }),
+    }
+}
+
+fn number_text(alloc: Global, number: NumberArgument) -> Result<ArgumentText, AllocError> {
+    let (least, most, about) = (number.option.least, number.option.most, number.about);
+    let usual = match number.usual {
+        Some(usual) => Some(format!(in alloc; "{usual}")?),
+        None => None,
+    };
+    Ok(ArgumentText {
+        about: format!(in alloc; "{about}, {least} to {most}")?,
+        usual,
+    })
+}
