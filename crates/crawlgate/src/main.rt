@@ -50,8 +50,7 @@ fn main(rt: HostRuntime) -> ExitCode {
     ExitCode::from(ending.status())
 }
 
-// Does a shift, with a progress line if standard error is a watched terminal. The first handle is for
-// threads, the second for streams.
+// Does a shift. The first handle is for threads, the second for streams.
 fn shift<R: Threads + Wait + time::Clock + Sync>(
     rt: &R,
     host: &HostRuntime,
@@ -69,9 +68,24 @@ fn shift<R: Threads + Wait + time::Clock + Sync>(
     ) else {
         return Err(Ending::NoMemory);
     };
-    let clock = SystemClock::new(*host);
     let journal = open_journal(host, &options.journal)?;
     let begun = begin_with(host, options.limits, &journal)?;
+    shift_watched(rt, host, &options, begun, journal, &fetcher)
+}
+
+// Does it with a progress line if standard error is a watched terminal.
+fn shift_watched<F: Fetcher + Sync, R: Threads + Wait + time::Clock + Sync>(
+    rt: &R,
+    host: &HostRuntime,
+    options: &ShiftOptions,
+    begun: JournalStart,
+    journal: Option<OpenJournal<'_>>,
+    fetcher: &F,
+) -> Result<Ending, Ending>
+    requires options { AreForShift options.now }
+    requires book { IsIdle begun.book }
+{
+    let clock = SystemClock::new(*host);
     let mut errors = Counted::new(host.stderr());
     let sink = if is_watched(host) {
         Some(&mut errors)
@@ -83,7 +97,7 @@ fn shift<R: Threads + Wait + time::Clock + Sync>(
     };
     let blanks = Blanks::new();
     shift_jobs::<Brand, _, _, _, _>(
-        rt, host, &options, begun, journal, blanks, &status, &fetcher, &clock,
+        rt, host, options, begun, journal, blanks, &status, fetcher, &clock,
     )
 }
 

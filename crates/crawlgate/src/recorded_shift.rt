@@ -7,7 +7,7 @@ use crate::journal::{OpenJournal, Past};
 use crate::shift_ending;
 use counted_io::{Counted, Sink};
 use crawl_job::Job;
-use crawl_shift::{ClosedSites, Shift};
+use crawl_shift::{ClosedSites, NotShifted, Shift};
 use crawl_workers::{Clock, Fetcher};
 use gate_journal::Recording;
 use gate_lock::{Gate, GateLock, Receipts};
@@ -191,13 +191,7 @@ impl<
         let output = Counted::new(Reasoned::new(host.stdout()));
         let mut writer = Behind::new(self.abreast(), output);
         let closed = ClosedSites::new(shift.rt, shift.alloc);
-        let end = match told {
-            ShiftOutput::Table => shift.table_later(jobs, &mut writer, gate, past),
-            // (no history is written beside the journal, which has it)
-            ShiftOutput::Outcomes | ShiftOutput::History => {
-                shift.report_later(jobs, &mut writer, gate, past, &closed)
-            }
-        };
+        let end = write_later(shift, jobs, &mut writer, gate, past, told, &closed);
         // (a failing standard error does not change the status)
         let _ = closed.tell(&mut Counted::new(host.stderr()));
         tell_failed(host, shift_ending(end), Stream::Output, writer.into_sink())
@@ -245,6 +239,35 @@ impl<
             rt: self.chronicle.rt,
             chronicle: self.chronicle,
             journal: self.journal,
+        }
+    }
+}
+
+// Does the jobs, and writes the output to this sink.
+fn write_later<
+    G: Gate + Send + Sync,
+    W: Sink + Send,
+    E: Sink + Send,
+    F: Fetcher + Sync,
+    C: Clock + Sync,
+    R: Threads + Wait + time::Clock + Sync,
+>(
+    shift: &Shift<'_, '_, E, F, C, R>,
+    jobs: &[Job],
+    writer: &mut W,
+    gate: &GateLock<G>,
+    past: Vec<Receipts<G>>,
+    told: ShiftOutput,
+    closed: &ClosedSites<'_, R>,
+) -> Result<(), NotShifted>
+    requires jobs { length jobs.now ≤ max_jobs }
+    requires workers { IsCrew shift.now.workers }
+{
+    match told {
+        ShiftOutput::Table => shift.table_later(jobs, writer, gate, past),
+        // (no history is written beside the journal, which has it)
+        ShiftOutput::Outcomes | ShiftOutput::History => {
+            shift.report_later(jobs, writer, gate, past, closed)
         }
     }
 }

@@ -11,10 +11,11 @@ use counted_io::{Counted, DeviceFault};
 use fetchers::Fetcher;
 use gate_lock::{Gate, Receipts};
 use journal_files::Recorder;
-use journal_keepers::{FetchesBehind, RecordedKeeper};
+use journal_keepers::FetchesBehind;
 use journal_tape::Behind;
 use keepers::{DeskKeeper, Keeper};
 use std::cell::Cell;
+use std::io::{Read, Write};
 use std::net::TcpStream;
 use std::sync::Wait;
 use std::sync::atomic::{AtomicU64, Ordering};
@@ -36,18 +37,35 @@ impl<F: Fetcher, C: NumberedClock, A: Alarm, R: Wait + time::Clock> Server<'_, F
             ahead: recorded.abreast(),
             fetcher: self.fetcher,
         };
-        let desk = DeskKeeper::open(self.rt, self.alloc, recorded.gate(), &fetcher)?;
-        let mut keeper = RecordedKeeper::new(
-            self.rt,
-            &recorded.chronicle,
-            recorded.journal,
-            &recorded.visits,
-            desk,
-        );
-        let ended = self.take_overseers(recorded, listener, left, &mut keeper);
-        let receipts = keeper.into_keeper().close();
+        self.oversee_by(recorded, listener, left, &fetcher)
+    }
+
+    // Serves overseers at a desk that fetches by this fetcher.
+    fn oversee_by<G: Gate, J: Recorder, B: Fetcher>(
+        &self,
+        recorded: &Recorded<'_, G, J, R>,
+        listener: &Listener,
+        left: &AtomicU64,
+        fetcher: &B,
+    ) -> Result<Receipts<G>, ServeFault> {
+        let keeper = DeskKeeper::open(self.rt, self.alloc, recorded.gate(), fetcher)?;
+        let (keeper, ended) = self.oversee_with(recorded, listener, left, keeper);
+        let receipts = keeper.close();
         ended?;
         Ok(receipts)
+    }
+
+    // Serves overseers by this keeper, through the journal.
+    fn oversee_with<G: Gate, J: Recorder, K: Keeper>(
+        &self,
+        recorded: &Recorded<'_, G, J, R>,
+        listener: &Listener,
+        left: &AtomicU64,
+        keeper: K,
+    ) -> (K, Result<(), DeviceFault>) {
+        let mut keeper = recorded.keeper(keeper);
+        let ended = self.take_overseers(recorded, listener, left, &mut keeper);
+        (keeper.into_keeper(), ended)
     }
 
     // Serves them one at a time, until no worker is left.
@@ -87,18 +105,31 @@ impl<F: Fetcher, C: NumberedClock, A: Alarm, R: Wait + time::Clock> Server<'_, F
         keeper: &mut K,
     ) {
         let waiting = Cell::new(Waiting::new(self.patience));
-        let mut reader = Counted::new(ClientStream::new(self.rt, &stream, &waiting));
-        let writer = Counted::new(ClientStream::new(self.rt, &stream, &waiting));
-        let mut writer = Behind::new(recorded.abreast(), writer);
+        let reader = ClientStream::new(self.rt, &stream, &waiting);
+        let writer = ClientStream::new(self.rt, &stream, &waiting);
+        self.oversee_lines(recorded, reader, writer, keeper);
+        close(self.rt, stream);
+    }
+
+    // Serves an overseer's lines to their end, writing only what is recorded.
+    fn oversee_lines<G: Gate, J: Recorder, K: Keeper, I: Read + Drop, O: Write + Drop>(
+        &self,
+        recorded: &Recorded<'_, G, J, R>,
+        reader: I,
+        writer: O,
+        keeper: &mut K,
+    ) {
+        let mut reader = Counted::new(reader);
+        let mut writer = Behind::new(recorded.abreast(), Counted::new(writer));
+        let first = FirstLine::NoRequest;
         let _ = serve_overseer(
             self.alloc,
             &mut reader,
             &mut writer,
             keeper,
             self.clock,
-            FirstLine::NoRequest,
+            first,
         );
-        close(self.rt, stream);
     }
 
     /// Shuts the listener, which then accepts nobody.

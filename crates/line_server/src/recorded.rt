@@ -6,7 +6,8 @@ use counted_io::DeviceFault;
 use gate_journal::{DeskSealer, Recording};
 use gate_lock::{Gate, GateLock};
 use journal_files::{Abreast, Recorder};
-use keepers::Visits;
+use journal_keepers::RecordedKeeper;
+use keepers::{Keeper, Visits};
 use std::alloc::Global;
 use std::sync::Wait;
 
@@ -46,6 +47,14 @@ impl<'a, G: Gate, J: Recorder, R: Wait> Recorded<'a, G, J, R> {
             chronicle: &self.chronicle,
             journal: self.journal,
         }
+    }
+
+    /// A keeper of this gate that seals through the journal.
+    pub(crate) fn keeper<'k, K: Keeper>(
+        &'k self,
+        keeper: K,
+    ) -> RecordedKeeper<'k, K, Recording<'a, G, R>, J, R> {
+        RecordedKeeper::new(self.rt, &self.chronicle, self.journal, &self.visits, keeper)
     }
 
     /// Waits until all entries are recorded.

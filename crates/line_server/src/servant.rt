@@ -13,7 +13,7 @@ use counted_io::{Counted, DeviceFault};
 use fetchers::Fetcher;
 use gate_lock::{Gate, Receipts};
 use journal_files::Recorder;
-use journal_keepers::{FetchesBehind, RecordedKeeper};
+use journal_keepers::FetchesBehind;
 use journal_tape::Behind;
 use keepers::{DeskKeeper, Keeper};
 use std::cell::Cell;
@@ -41,26 +41,42 @@ impl<F: Fetcher, C: NumberedClock, A: Alarm, R: Wait + time::Clock> Server<'_, F
     fn man_desk<G: Gate, J: Recorder>(
         &self,
         recorded: &Recorded<'_, G, J, R>,
-        mut numbers: ConnectionNumbers<'_>,
+        numbers: ConnectionNumbers<'_>,
     ) -> Result<(u64, Receipts<G>), ServeFault> {
         let fetcher = FetchesBehind {
             ahead: recorded.abreast(),
             fetcher: self.fetcher,
         };
+        self.man_by(recorded, numbers, &fetcher)
+    }
+
+    // `man_desk` at a desk that fetches by this fetcher.
+    fn man_by<G: Gate, J: Recorder, B: Fetcher>(
+        &self,
+        recorded: &Recorded<'_, G, J, R>,
+        numbers: ConnectionNumbers<'_>,
+        fetcher: &B,
+    ) -> Result<(u64, Receipts<G>), ServeFault> {
         let gate = recorded.gate();
-        let desk = DeskKeeper::open_within(self.rt, self.alloc, gate, &fetcher, self.bounds)?;
-        let mut keeper = RecordedKeeper::new(
-            self.rt,
-            &recorded.chronicle,
-            recorded.journal,
-            &recorded.visits,
-            desk,
-        );
+        let keeper = DeskKeeper::open_within(self.rt, self.alloc, gate, fetcher, self.bounds)?;
         let mut taken = 0;
-        let ended = self.take_all(recorded, &mut numbers, &mut keeper, &mut taken);
-        let receipts = keeper.into_keeper().close();
+        let (keeper, ended) = self.man_with(recorded, numbers, keeper, &mut taken);
+        let receipts = keeper.close();
         ended?;
         Ok((taken, receipts))
+    }
+
+    // Serves clients by this keeper, through the journal.
+    fn man_with<G: Gate, J: Recorder, K: Keeper>(
+        &self,
+        recorded: &Recorded<'_, G, J, R>,
+        mut numbers: ConnectionNumbers<'_>,
+        keeper: K,
+        taken: &mut u64,
+    ) -> (K, Result<(), DeviceFault>) {
+        let mut keeper = recorded.keeper(keeper);
+        let ended = self.take_all(recorded, &mut numbers, &mut keeper, taken);
+        (keeper.into_keeper(), ended)
     }
 
     // Serves clients until no number is left, or none can be accepted.

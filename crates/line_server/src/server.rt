@@ -129,12 +129,22 @@ impl<
         requires { IsCrew self.now.workers }
     {
         let recorded = Recorded::new(self.rt, self.alloc, gate, journal);
-        let (line, seats) = JobLine::new(self.alloc, count_of(self.connections), self.workers)?;
-        let workers = Pool::new(self.alloc, numbers_at(self.alloc, &line, seats)?)?;
-        let (connections, receipts) = self.serve_all(&recorded, workers, begun)?;
+        let served = self.serve_recorded(&recorded, begun)?;
         // Entries without a reply are recorded too.
         recorded.see_to()?;
-        Ok((connections, receipts))
+        Ok(served)
+    }
+
+    fn serve_recorded<G: Gate + Send + Sync, J: Recorder + Sync>(
+        &self,
+        recorded: &Recorded<'_, G, J, R>,
+        begun: &[Authority],
+    ) -> Result<(u64, Vec<Receipts<G>>), ServeFault>
+        requires { IsCrew self.now.workers }
+    {
+        let (line, seats) = JobLine::new(self.alloc, count_of(self.connections), self.workers)?;
+        let workers = Pool::new(self.alloc, numbers_at(self.alloc, &line, seats)?)?;
+        self.serve_all(recorded, workers, begun)
     }
 
     fn settle_served<G: Gate + Send + Sync>(
@@ -169,21 +179,7 @@ impl<
             || self.employ_overseen(recorded, &left, workers, begun),
         );
         let (swept, sealed) = watched?;
-        let mut receipts = Vec::new(self.alloc);
-        receipts.push(swept).map_err(AllocError::from)?;
-        receipts.push(sealed).map_err(AllocError::from)?;
-        for end in [results.overseen, results.fetched] {
-            if let Some(end) = end {
-                receipts.push(end?).map_err(AllocError::from)?;
-            }
-        }
-        let mut served = results.served?;
-        receipts.append(&mut served.receipts)?;
-        let connections = served
-            .works
-            .iter()
-            .fold(0u64, |all, taken| all.saturating_add(*taken));
-        Ok((connections, receipts))
+        gathered(self.alloc, swept, sealed, results)
     }
 
     // Runs the workers, and serves overseers beside them until none is left, if allowed.
@@ -257,4 +253,28 @@ impl<
             &|numbers: ConnectionNumbers<'_>| self.employ(recorded, left, numbers),
         )
     }
+}
+
+// The accepted connections, and all receipts.
+fn gathered<G: Gate>(
+    alloc: Global,
+    swept: Receipts<G>,
+    sealed: Receipts<G>,
+    results: Results<G>,
+) -> Result<(u64, Vec<Receipts<G>>), ServeFault> {
+    let mut receipts = Vec::new(alloc);
+    receipts.push(swept).map_err(AllocError::from)?;
+    receipts.push(sealed).map_err(AllocError::from)?;
+    for end in [results.overseen, results.fetched] {
+        if let Some(end) = end {
+            receipts.push(end?).map_err(AllocError::from)?;
+        }
+    }
+    let mut served = results.served?;
+    receipts.append(&mut served.receipts)?;
+    let connections = served
+        .works
+        .iter()
+        .fold(0u64, |all, taken| all.saturating_add(*taken));
+    Ok((connections, receipts))
 }
