@@ -102,6 +102,26 @@ impl<'a, R: time::Clock, S: Waits + AtHand + Drop> LinesInTurn<'a, R, S> {
         }
     }
 
+    // How long was fetched for lines sent ahead when the next octets are read.
+    fn ahead_of_next(&self) -> io::Result<Waiting> {
+        let turn = self.turn.get();
+        let spent = time_since(self.rt, turn.since);
+        take_turn(turn.ahead, self.is_at_hand()?, spent)
+    }
+
+    // Notes that, and whether the gate may fetch for what was read now.
+    fn note(&self, ahead: Waiting, is_fetch: bool) {
+        self.turn.set(FetchedAhead {
+            ahead,
+            since: if is_fetch {
+                Instant::now(self.rt).ok()
+            } else {
+                None
+            },
+            has_more: !self.lines.buffer().is_empty(),
+        });
+    }
+
     // Returns octets read before, or else what a read brings, as far as they may go together.
     fn hand_out(&mut self, buf: &mut [u8]) -> io::Result<usize>
         ensures bound { ReadsAtMost result buf.new }
@@ -130,21 +150,10 @@ impl<'a, R: time::Clock, S: Waits + AtHand + Drop> Read for LinesInTurn<'a, R, S
             (reader_remaining (λ s. S.remaining s.stream) self.new.lines) result buf.new }
         ensures turn { BringsTurn result buf.new }
     {
-        let turn = self.turn.get();
-        let spent = time_since(self.rt, turn.since);
-        let ahead = take_turn(turn.ahead, self.is_at_hand()?, spent)?;
+        let ahead = self.ahead_of_next()?;
         let begun = self.begun;
         let taken = self.hand_out(buf)?;
-        let is_fetch = may_fetch(begun, &buf[..taken]);
-        self.turn.set(FetchedAhead {
-            ahead,
-            since: if is_fetch {
-                Instant::now(self.rt).ok()
-            } else {
-                None
-            },
-            has_more: !self.lines.buffer().is_empty(),
-        });
+        self.note(ahead, may_fetch(begun, &buf[..taken]));
         Ok(taken)
     }
 }

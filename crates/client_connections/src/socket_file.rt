@@ -21,38 +21,55 @@ pub(crate) fn bind<R: Files + Net>(rt: &R, alloc: Global, path: &str) -> io::Res
     refuse_taken(rt, path)?;
     let folder = format!(in alloc; "{path}.new")?;
     let made = format!(in alloc; "{folder}/socket")?;
+    bind_by(rt, folder.as_str(), made.as_str(), path)
+}
+
+// Makes the socket in this folder, which is there only meanwhile.
+fn bind_by<R: Files + Net>(
+    rt: &R,
+    folder: &str,
+    made: &str,
+    path: &str,
+) -> io::Result<UnixListener> {
     // (what a server killed meanwhile has left is made anew)
-    let _ = fs::remove_file(rt, made.as_str());
-    let _ = fs::remove_dir(rt, folder.as_str());
-    DirBuilder::new()
-        .mode(OWNERS_FOLDER)
-        .create(rt, folder.as_str())?;
-    let bound = bind_within(rt, made.as_str(), path);
-    let _ = fs::remove_file(rt, made.as_str());
-    let _ = fs::remove_dir(rt, folder.as_str());
+    clear(rt, folder, made);
+    DirBuilder::new().mode(OWNERS_FOLDER).create(rt, folder)?;
+    let bound = bind_within(rt, made, path);
+    clear(rt, folder, made);
     bound
+}
+
+// Removes the folder, and what may be left in it.
+fn clear<R: Files + Net>(rt: &R, folder: &str, made: &str) {
+    let _ = fs::remove_file(rt, made);
+    let _ = fs::remove_dir(rt, folder);
 }
 
 // Makes a socket that only its owner can open, and moves it to its path.
 fn bind_within<R: Files + Net>(rt: &R, made: &str, path: &str) -> io::Result<UnixListener> {
     let listener = UnixListener::bind(rt, made)?;
-    fs::set_permissions(rt, made, Permissions::from_mode(OWNERS_FILE))?;
-    fs::rename(rt, made, path)?;
+    show(rt, made, path)?;
     Ok(listener)
+}
+
+// Lets its owner alone open the socket, and moves it to its path.
+fn show<R: Files + Net>(rt: &R, made: &str, path: &str) -> io::Result<()> {
+    fs::set_permissions(rt, made, Permissions::from_mode(OWNERS_FILE))?;
+    fs::rename(rt, made, path)
 }
 
 // Refuses a path where a server listens, or that is a file but no socket.
 fn refuse_taken<R: Files + Net>(rt: &R, path: &str) -> io::Result<()> {
     match fs::symlink_metadata(rt, path) {
-        Err(error) if error.kind() == ErrorKind::NotFound => return Ok(()),
-        Err(error) => return Err(error),
-        Ok(found) if !found.file_type().is_socket() => {
-            return Err(io::Error::from(ErrorKind::AddrInUse));
-        }
-        Ok(_) => {}
+        Ok(found) => refuse_file(rt, path, found.file_type().is_socket()),
+        Err(error) if error.kind() == ErrorKind::NotFound => Ok(()),
+        Err(error) => Err(error),
     }
-    match UnixStream::connect(rt, path) {
-        Ok(_) => Err(io::Error::from(ErrorKind::AddrInUse)),
-        Err(_) => Ok(()),
+}
+
+fn refuse_file<R: Files + Net>(rt: &R, path: &str, is_socket: bool) -> io::Result<()> {
+    if is_socket && UnixStream::connect(rt, path).is_err() {
+        return Ok(());
     }
+    Err(io::Error::from(ErrorKind::AddrInUse))
 }

@@ -117,16 +117,18 @@ impl<R: Net<Stream = TcpStream> + time::Clock> TcpFetcher<R> {
         ensures schemes { IfOk result (λ fetcher. fetcher.schemes ≡ self.schemes) }
     {
         let alloc = self.allocator();
+        let whole = with_comment(alloc, self.agent.as_slice(), contact)?;
+        let contact = Vec::from_slice(alloc, contact)?;
         let TcpFetcher {
             client,
-            agent,
+            agent: _,
             contact: _,
             schemes,
         } = self;
         Ok(TcpFetcher {
             client,
-            agent: with_comment(alloc, agent.as_slice(), contact)?,
-            contact: Some(Vec::from_slice(alloc, contact)?),
+            agent: whole,
+            contact: Some(contact),
             schemes,
         })
     }

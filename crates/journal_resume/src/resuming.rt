@@ -107,13 +107,26 @@ fn closed_last(
 ) -> Result<Vec<Authority>, AllocError> {
     let mut closed = closed_by_network(alloc, standing)?;
     closed.sort_unstable_by_key(|answer| Reverse(answer.turn.number()));
+    first_unknown(alloc, closed.as_slice(), known)
+}
+
+// The sites of the first answers, without those known.
+fn first_unknown(
+    alloc: Global,
+    closed: &[&StandingAnswer],
+    known: &[Authority],
+) -> Result<Vec<Authority>, AllocError> {
     let mut sites = Vec::new(alloc);
     for answer in closed.iter().take(MOST_CLOSED) {
-        if !known.iter().any(|site| *site == answer.authority) {
+        if !is_among(known, &answer.authority) {
             sites.push(answer.authority.copy()?)?;
         }
     }
     Ok(sites)
+}
+
+fn is_among(known: &[Authority], authority: &Authority) -> bool {
+    known.iter().any(|site| site == authority)
 }
 
 fn closed_by_network<'a>(
