@@ -114,11 +114,16 @@ impl<F: Fetcher, C: Clock, W: Watcher, P: Pace> Crew<'_, F, C, W, P> {
             drawn: Vec::new(alloc),
             done: Vec::new(alloc),
         };
-        let mut desk = gate.desk(rt, alloc)?;
+        let mut desk = match gate.desk(rt, alloc) {
+            Ok(desk) => desk,
+            Err(_) => return Err(ShiftFault::DesksFull),
+        };
         let ended = self.draw_all(rt, alloc, &mut desk, &mut work);
         let receipts = desk.close();
-        ended?;
-        Ok((work, receipts))
+        match ended {
+            Ok(()) => Ok((work, receipts)),
+            Err(_) => Err(ShiftFault::NoMemory),
+        }
     }
 
     // Enters sites while there is a job to enter for, drawing and doing one job at each, and then does the
@@ -144,7 +149,9 @@ impl<F: Fetcher, C: Clock, W: Watcher, P: Pace> Crew<'_, F, C, W, P> {
             };
             let drew = self.draw_one(rt, alloc, site, desk, work);
             self.sites.leave(rt, site);
-            drew?;
+            if let Err(fault) = drew {
+                return Err(fault);
+            }
         }
         unreachable!()
     }
@@ -196,8 +203,10 @@ impl<F: Fetcher, C: Clock, W: Watcher, P: Pace> Crew<'_, F, C, W, P> {
         ensures end { OnOk result (ended_at site work.new.seat ≡ true) }
     {
         'draws: for _ in rt.forever() {
-            if !self.draw_one(rt, alloc, site, desk, work)? {
-                return Ok(());
+            match self.draw_one(rt, alloc, site, desk, work) {
+                Ok(true) => {}
+                Ok(false) => return Ok(()),
+                Err(fault) => return Err(fault),
             }
         }
         unreachable!()
