@@ -5,7 +5,6 @@ use Rattle.std.specs.Prelude.{slice_index, slice_index_or}
 use Rattle.std.specs.List.{list_all, list_any}
 use Rattle.std.proofs.lemmas.List.{length-set}
 use Rattle.atomic_table.specs.Seated.{TableId}
-use Rattle.gate_lock.specs.Desks.{DeskView, KeepsOut}
 use Rattle.job_line.specs.Covers.{Covers, SeatView, has_ended, lists_of}
 use Rattle.job_line.specs.Sums.{weigh, weigh_all, weigh_below}
 use Rattle.crawl_workers.specs.Crews.{IsAtLine, StaysAt, one_at_number}
@@ -99,11 +98,3 @@ pub drawn_once : (count : ℕ) (counts order : List ℕ) (drawn : List (List ℕ
 drawn_once count counts order drawn seats is covers ended same weight =
     same weight ∙ covers.one_ended ended (weigh_at order weight) ∙ ap (weigh_below (weigh_at order weight)) (is.jobs ∙ sym is.len)
     ∙ weigh_indexes weight order ∙ is.each_once weight
-
-pub keeps_on : (old mid new : DeskView) → KeepsOut old mid → KeepsOut mid new → KeepsOut old new
-keeps_on old mid new first then = record {
-  permits_are = then.permits_are ∙ first.permits_are;
-  runs_are = then.runs_are ∙ first.runs_are;
-  turns_are = then.turns_are ∙ first.turns_are;
-  sealed_are = then.sealed_are ∙ first.sealed_are;
-}

@@ -114,16 +114,11 @@ impl<F: Fetcher, C: Clock, W: Watcher, P: Pace> Crew<'_, F, C, W, P> {
             drawn: Vec::new(alloc),
             done: Vec::new(alloc),
         };
-        let mut desk = match gate.desk(rt, alloc) {
-            Ok(desk) => desk,
-            Err(_) => return Err(ShiftFault::DesksFull),
-        };
+        let mut desk = gate.desk(rt, alloc)?;
         let ended = self.draw_all(rt, alloc, &mut desk, &mut work);
         let receipts = desk.close();
-        match ended {
-            Ok(()) => Ok((work, receipts)),
-            Err(_) => Err(ShiftFault::NoMemory),
-        }
+        ended?;
+        Ok((work, receipts))
     }
 
     // Enters sites while there is a job to enter for, drawing and doing one job at each, and then does the
@@ -149,9 +144,7 @@ impl<F: Fetcher, C: Clock, W: Watcher, P: Pace> Crew<'_, F, C, W, P> {
             };
             let drew = self.draw_one(rt, alloc, site, desk, work);
             self.sites.leave(rt, site);
-            if let Err(fault) = drew {
-                return Err(fault);
-            }
+            drew?;
         }
         unreachable!()
     }
@@ -203,10 +196,8 @@ impl<F: Fetcher, C: Clock, W: Watcher, P: Pace> Crew<'_, F, C, W, P> {
         ensures end { OnOk result (ended_at site work.new.seat ≡ true) }
     {
         'draws: for _ in rt.forever() {
-            match self.draw_one(rt, alloc, site, desk, work) {
-                Ok(true) => {}
-                Ok(false) => return Ok(()),
-                Err(fault) => return Err(fault),
+            if !self.draw_one(rt, alloc, site, desk, work)? {
+                return Ok(());
             }
         }
         unreachable!()

@@ -5,7 +5,6 @@ ghost use Rattle.desk_pool.specs.Pools.{ReturnEach};
 ghost use Rattle.job_line.specs.Covers.{IsNew, parts_of};
 ghost use Rattle.job_line.specs.Limits.{max_jobs, max_workers};
 ghost use Rattle.crawl_workers.specs.Crews.{AreAllDone, Ends};
-ghost use Rattle.crawl_workers.specs.Orders.{IsOrder};
 ghost use Rattle.crawl_workers.specs.Shifts.{AreAllJobs, IsLaterShift, IsShift};
 ghost use Rattle.page_worker.specs.World.{world_of};
 
@@ -227,12 +226,14 @@ fn do_jobs<
         (AreAllJobs (world_of (F.gives fetcher.now) (F.follows fetcher.now) (C.reads clock.now))
         jobs.now workers) }
 {
-    let Prepared {
-        mut outcomes,
+    let mut outcomes = no_outcomes(alloc, jobs.len())?;
+    let Order {
+        names,
         counts,
         numbers,
-        sites,
-    } = prepare(rt, alloc, jobs, workers, pace, gate)?;
+    } = Order::of_jobs(alloc, jobs)?;
+    let places = gate.lend(rt).book().limits().places;
+    let sites = ShiftSites::new(alloc, names, &counts, workers, places, pace.delay())?;
     let (line, seats) = JobLine::of_sites(alloc, &counts, workers)?;
     let crew = Crew {
         jobs,
@@ -245,10 +246,7 @@ fn do_jobs<
         watcher,
         pace,
     };
-    let handover = match crew.do_all(rt, alloc, gate, seats) {
-        Ok(handover) => handover,
-        Err(fault) => return Err(fault),
-    };
+    let handover = crew.do_all(rt, alloc, gate, seats)?;
     let Handover {
         seats,
         drawn,
@@ -262,43 +260,6 @@ fn do_jobs<
         outcomes,
         drawn,
         receipts,
-    })
-}
-
-// What a shift has before its workers begin: an outcome without hops for each job, and the jobs by site.
-#[derive(Drop)]
-struct Prepared {
-    outcomes: Vec<Crawled>,
-    counts: Vec<u64>,
-    numbers: Vec<u64>,
-    sites: ShiftSites,
-}
-
-fn prepare<G: Gate, P: Pace, R: Wait>(
-    rt: &R,
-    alloc: Global,
-    jobs: &[Job],
-    workers: u64,
-    pace: &P,
-    gate: &GateLock<G>,
-) -> Result<Prepared, AllocError>
-    ensures room { IfOk result (λ made. vec_len made.outcomes ≡ length jobs.now) }
-    ensures order { IfOk result (λ made.
-        IsOrder (length jobs.now) made.counts.items made.numbers.items) }
-{
-    let outcomes = no_outcomes(alloc, jobs.len())?;
-    let Order {
-        names,
-        counts,
-        numbers,
-    } = Order::of_jobs(alloc, jobs)?;
-    let places = gate.lend(rt).book().limits().places;
-    let sites = ShiftSites::new(alloc, names, &counts, workers, places, pace.delay())?;
-    Ok(Prepared {
-        outcomes,
-        counts,
-        numbers,
-        sites,
     })
 }
 
@@ -334,10 +295,8 @@ impl<F: Fetcher + Sync, C: Clock + Sync, W: Watcher + Sync, P: Pace + Sync> Crew
     {
         let handover = Handover::with_room(alloc)?;
         let pool = Pool::new(alloc, seats)?;
-        match self.man_all(rt, alloc, gate, pool) {
-            Ok(returned) => Ok(handover.filled(returned)),
-            Err(fault) => Err(fault),
-        }
+        let returned = self.man_all(rt, alloc, gate, pool)?;
+        Ok(handover.filled(returned))
     }
 
     // Runs each worker on its own thread, and the last one on this.

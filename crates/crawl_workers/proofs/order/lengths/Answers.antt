@@ -1,9 +1,7 @@
 -- One list more is counted.
 -- Used by `lengths`.
-use Rattle.std.proofs.Common.{◌∙◌, List, ℕ, Vec, Global, ap, arith}
-use Rattle.std.proofs.lemmas.List.{at_drop_all}
-use Rattle.job_line.specs.Sums.{jobs_in, weigh_all}
-use Rattle.crawl_workers.specs.Orders.{lists_in}
+use Rattle.std.proofs.Common.{◌∙◌, ap, arith}
+use Rattle.job_line.specs.Sums.{jobs_in}
 use Rattle.crawl_workers.proofs.Ordering.{jobs_in_more, weigh_all_left, weigh_ones}
 use Rattle.crawl_workers.proofs.order.lengths.Goals as goal
 
@@ -17,15 +15,3 @@ loop-list-preserved c =
       so_many = omega (arith, so_far.so_many, c.push_reserved.ensures.len);
       room = omega (arith, so_far.room, c.push_reserved.ensures.capacity);
     }
-
-pub loop-list-init : goal.loop-list-init
-loop-list-init c =
-    let made = c.in_ok-counts.ensures {u = tt} in record {
-      counted = omega (arith, ap jobs_in made.items);
-      so_many = made.len;
-      room = omega (arith, made.capacity);
-    }
-
-pub returns : goal.returns
-returns c =
-    omega (arith, c.loop-list.invariant.counted, at_drop_all (λ (lists : List (Vec ℕ Global)). weigh_all (λ _. 1) (lists_in lists)) c.args.lists.now c.loop-list.list-index c.loop-list-test.false)

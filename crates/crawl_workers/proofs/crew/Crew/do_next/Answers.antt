@@ -28,13 +28,3 @@ returns-clause-ok g c =
       are_done = did_another world c.args.self.now.jobs.now work.done c.push_reserved-2.new.self.items did (entries_of c.args.desk.now.marks) this.0 (entries_of c.do_job.new.desk.marks) items this.1.0 so_far.are_done this.1.1;
       are_all = (c.in_ok-did.ensures {u = tt}).out.sealed_are ∙ so_far.are_all;
     }
-
-pub returns-clause-out : goal.returns-clause-out
-returns-clause-out g c = (c.in_ok-did.ensures {u = tt}).out
-
-pub returns-clause-seat : goal.returns-clause-seat
-returns-clause-seat g c = ap (λ (w : WorkView). w.seat) c.work.view_is
-
-pub returns-clause-drawn : goal.returns-clause-drawn
-returns-clause-drawn g c =
-    c.push_reserved.ensures.items ∙ ap (λ xs. xs ++ c.args.number ∷ []) (c.reserve.ensures.items ∙ ap (λ (w : WorkView). w.drawn) c.work.view_is)

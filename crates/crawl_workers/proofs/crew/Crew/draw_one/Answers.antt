@@ -1,6 +1,6 @@
 -- The drawn index is that of a job, which is done.
 -- Used by `Crew::draw_one`.
-use Rattle.std.proofs.Common.{◌∙◌, ◌++◌, ◌∷◌, [], ap, arith, length, refl, true≢false}
+use Rattle.std.proofs.Common.{◌∙◌, ◌++◌, ◌∷◌, [], ap, arith, length, refl}
 use Rattle.std.specs.Prelude.{slice_index}
 use Rattle.job_line.specs.Covers.{SeatView}
 use Rattle.job_line.specs.Sums.{jobs_in}
@@ -27,9 +27,3 @@ returns-clause-ok g c =
           (did.drawn ∙ ap (λ (w : WorkView). w.drawn ++ number ∷ []) c.work.view_is);
       has_done = did.ok;
     }
-
-pub returns-clause-out : goal.returns-clause-out
-returns-clause-out g c = (c.in_ok-do_next.ensures {u = tt}).out
-
-pub returns-clause-end : goal.returns-clause-end
-returns-clause-end g c drew there = absurd (true≢false drew)
