@@ -6,4 +6,3 @@ pub mod Holding
 pub mod Marking
 pub mod Replying
 pub mod Starts
-pub mod Whole

@@ -7,4 +7,3 @@ pub mod Desks
 pub mod Awaiting
 pub mod Steps
 pub mod Bags
-pub mod Settling

@@ -3,7 +3,7 @@ use Rattle.std.proofs.Common.{◌≡◌, List, [], ◌∷◌, map, refl, ap, sub
 use Rattle.std.specs.Prelude.{◌↔◌, IfOk, IsTrue}
 use Rattle.gate_marks.specs.Fitting.{MarksFit}
 use Rattle.gate_marks.specs.Marks.{Receipt}
-use Rattle.gate_lock.proofs.fit.receipts_fit.Goals as goal
+use Rattle.gate_settlement.proofs.fit.receipts_fit.Goals as goal
 
 own : (rs : List Receipt) → map (λ r. r) rs ≡ rs
 own [] = refl

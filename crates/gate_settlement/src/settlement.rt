@@ -2,13 +2,11 @@
 //! Nothing is out, and the receipts are the whole history. For programs that end a gate of several threads.
 ghost use Rattle.std.specs.Prelude.{◌≡◌, IfOk};
 ghost use Rattle.gate_marks.specs.Marks.{starts_of_all};
-ghost use Rattle.gate_lock.specs.Settling.{IsWholeUnlessSealed, Settles, SettlesSome};
+ghost use Rattle.gate_settlement.specs.Settling.{IsWholeUnlessSealed, Settles, SettlesSome};
 
 use crate::fit::receipts_fit;
-use crate::ledgers::Gate;
-use crate::lock::{GateLock, Held};
-use crate::receipts::Receipts;
 use crate::started::{has_handed, has_starts};
+use gate_lock::{Gate, GateLock, Held, Receipts};
 use std::alloc::{AllocError, Global};
 use std::sync::Wait;
 
@@ -35,7 +33,7 @@ pub enum SettleFault {
 
 impl From<AllocError> for SettleFault {
     ghost use Rattle.std.specs.Prelude.{◌≡◌};
-    ghost use Rattle.gate_lock.specs.declared.settlement.SettleFault.{SettleFault};
+    ghost use Rattle.gate_settlement.specs.declared.settlement.SettleFault.{SettleFault};
 
     ghost from_gives = { λ _ fault. fault ≡ SettleFault.NoMemory };
 

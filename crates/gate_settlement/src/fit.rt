@@ -3,9 +3,8 @@
 ghost use Rattle.std.specs.Prelude.{◌+◌, ◌^◌, ◌<◌, ◌↔◌, IfOk, IsTrue, length};
 ghost use Rattle.gate_marks.specs.Fitting.{MarksFit};
 
-use crate::ledgers::Gate;
-use crate::receipts::Receipts;
 use gate_history::Entry;
+use gate_lock::{Gate, Receipts};
 use gate_marks::lists_fit;
 use std::alloc::{AllocError, Global};
 

@@ -2,8 +2,7 @@
 ghost use Rattle.std.specs.Prelude.{◌≡◌, ◌↔◌, IsTrue};
 ghost use Rattle.gate_marks.specs.Marks.{handed_at_all, starts_of_all};
 
-use crate::ledgers::Gate;
-use crate::receipts::Receipts;
+use gate_lock::{Gate, Receipts};
 
 pub(crate) fn has_starts<G: Gate>(all: &[Receipts<G>], count: u64) -> bool
     ensures { IsTrue result ↔ (starts_of_all all.now ≡ count) }

@@ -10,9 +10,9 @@ use Rattle.gate_history.specs.Standing.{in_flight}
 use Rattle.gate_core.specs.Gate.{Gate, HasLegalHistory, history}
 use Rattle.gate_marks.specs.Fitting.{MarksFit}
 use Rattle.gate_marks.specs.Marks.{Receipt, handed_at_all, starts_of_all}
-use Rattle.gate_lock.specs.declared.settlement.Settled.{Settled}
-use Rattle.gate_lock.specs.declared.settlement.SettleFault.{SettleFault}
-use Rattle.gate_lock.specs.declared.settlement.SettleFault.TheVariants.{Mismatch, NoMemory, StillOut}
+use Rattle.gate_settlement.specs.declared.settlement.Settled.{Settled}
+use Rattle.gate_settlement.specs.declared.settlement.SettleFault.{SettleFault}
+use Rattle.gate_settlement.specs.declared.settlement.SettleFault.TheVariants.{Mismatch, NoMemory, StillOut}
 
 -- the receipts are the gate's history: they fit it, have as many started fetches, and handed out all that was sealed
 pub record AreHistory (g : Gate) (rs : List Receipt) : Type 0 where

@@ -3,9 +3,8 @@
 ghost use Rattle.std.specs.Prelude.{◌≡◌, []};
 ghost use Rattle.gate_history.specs.Base.{empty_base};
 
-use crate::ledgers::{Blanks, Gate};
-use crate::lock::GateLock;
 use gate_core::Book;
+use gate_lock::{Blanks, Gate, GateLock};
 use std::marker::Brand;
 
 /// What is done with a gate, for any gate.

@@ -5,19 +5,19 @@ use Rattle.std.specs.Prelude.{IfOk}
 use Rattle.gate_history.specs.Base.{Base, empty_base}
 use Rattle.gate_history.specs.History.{followed_by, from, started_count}
 use Rattle.gate_history.specs.Legal.{IsLegal}
+use Rattle.gate_history.proofs.Following.{followed_count}
 use Rattle.gate_core.specs.Gate.{Gate, HasLegalHistory}
 use Rattle.gate_marks.specs.Fitting.{MarksFit}
 use Rattle.gate_marks.specs.Marks.{Receipt}
-use Rattle.gate_lock.specs.Settling.{IsSettled, IsWholeUnlessSealed, NothingOut, Settles}
-use Rattle.gate_lock.specs.declared.settlement.Settled.{Settled}
-use Rattle.gate_lock.specs.declared.settlement.SettleFault.{SettleFault}
-use Rattle.gate_lock.proofs.Counting.{counted}
+use Rattle.gate_settlement.specs.Settling.{IsSettled, IsWholeUnlessSealed, NothingOut, Settles}
+use Rattle.gate_settlement.specs.declared.settlement.Settled.{Settled}
+use Rattle.gate_settlement.specs.declared.settlement.SettleFault.{SettleFault}
 
 whole : (g : Gate) (rs : List Receipt) (s : Settled) → (g.base.entries ≡ 0 → g.base ≡ empty_base) → HasLegalHistory g → IsSettled g rs s → IsWholeUnlessSealed rs s
 whole g rs s start legal is none =
     let nothing : g.base.entries ≡ 0 = sym is.are.handed ∙ none in
     let base = start nothing in
-    let all = counted (from g.base) g.entries in
+    let all = followed_count (from g.base) g.entries in
     let events = is.events_are in
     record {
       entries = g.entries;
