@@ -4,7 +4,6 @@
 
 mod ask;
 mod awaited;
-mod bag;
 mod condense;
 mod desk;
 mod desk_ask;
@@ -20,7 +19,6 @@ mod spend;
 mod tally;
 mod turns;
 
-pub use bag::Bag;
 pub use desk::Desk;
 pub use desk_ask::DeskAsk;
 pub use gate_marks::{Mark, SealedMarks, marks_fit};

@@ -1,9 +1,9 @@
 -- Those that were finished are the last ones.
 use Rattle.std.proofs.Common.{◌≡◌, ◌+◌, ◌++◌, List, length, All}
 use Rattle.numbered_store.specs.Stores.{kept_in}
-use Rattle.gate_lock.specs.Bags.{FinishesEach}
+use Rattle.permit_bag.specs.Bags.{FinishesEach}
 use Rattle.gate_lock.specs.Desks.{out_of, Run}
-use Rattle.gate_lock.proofs.bag.finish_each.Given as goal
+use Rattle.permit_bag.proofs.bag.finish_each.Given as goal
 
 abbrev pub invariant-loop-run : goal.invariant-loop-run
 invariant-loop-run g l =

@@ -2,8 +2,8 @@
 use Rattle.std.proofs.Common.{sym, ap, ◌∙◌, length, arith}
 use Rattle.numbered_store.specs.Stores.{kept_in}
 use Rattle.gate_lock.specs.Desks.{Pass}
-use Rattle.gate_lock.proofs.Holding.{less}
-use Rattle.gate_lock.proofs.bag.Bag.back.Goals as goal
+use Rattle.permit_bag.proofs.Holding.{less}
+use Rattle.permit_bag.proofs.bag.Bag.back.Goals as goal
 
 pub back-requires : goal.back-requires
 back-requires g c =

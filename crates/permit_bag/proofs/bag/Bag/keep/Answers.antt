@@ -2,8 +2,8 @@
 use Rattle.std.proofs.Common.{rules, sym, ap, ◌∙◌, length, arith}
 use Rattle.numbered_store.specs.Stores.{kept_in}
 use Rattle.gate_lock.specs.Desks.{Pass}
-use Rattle.gate_lock.proofs.Holding.{more, ok_then}
-use Rattle.gate_lock.proofs.bag.Bag.keep.Goals as goal
+use Rattle.permit_bag.proofs.Holding.{more, ok_then}
+use Rattle.permit_bag.proofs.bag.Bag.keep.Goals as goal
 
 pub invariant_of-self : goal.invariant_of-self
 invariant_of-self g c =

@@ -2,8 +2,8 @@
 use Rattle.std.proofs.Common.{◌∙◌, ap, length, arith}
 use Rattle.numbered_store.specs.Stores.{kept_in}
 use Rattle.gate_lock.specs.Desks.{Pass}
-use Rattle.gate_lock.proofs.Holding.{less}
-use Rattle.gate_lock.proofs.bag.Bag.take.Goals as goal
+use Rattle.permit_bag.proofs.Holding.{less}
+use Rattle.permit_bag.proofs.bag.Bag.take.Goals as goal
 
 pub invariant_of-self : goal.invariant_of-self
 invariant_of-self g c =

@@ -6,7 +6,7 @@ use Rattle.std.proofs.lemmas.Bool.{and_parts}
 use Rattle.std.proofs.lemmas.Slice.Eq.{bytes_eq-Decides}
 use Rattle.gate_lock.specs.Desks.{Pass}
 use Rattle.numbered_store.proofs.CallerLemmas.{kept_passes}
-use Rattle.gate_lock.proofs.bag.Bag.url_of.Goals as goal
+use Rattle.permit_bag.proofs.bag.Bag.url_of.Goals as goal
 
 pub returns-in-Some-at : goal.returns-in-Some-at
 returns-in-Some-at g c =

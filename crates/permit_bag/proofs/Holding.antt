@@ -7,7 +7,7 @@ use Rattle.std.proofs.lemmas.List.Sorted.{All-permutation, length_permutation, l
 use Rattle.std.proofs.lemmas.Slice.Eq.{bytes_eq-Decides}
 use Rattle.std.specs.List.{list_any}
 use Rattle.std.specs.Str.{bytes_eq}
-use Rattle.gate_lock.specs.Bags.{BagView, pass_of}
+use Rattle.permit_bag.specs.Bags.{BagView, pass_of}
 use Rattle.gate_lock.specs.Desks.{Pass}
 
 module _ {X : Type 0} (desk : X → ℕ) (no : ℕ) where

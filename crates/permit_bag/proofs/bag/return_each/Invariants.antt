@@ -1,9 +1,9 @@
 -- Those that were given back are the last ones.
 use Rattle.std.proofs.Common.{◌≡◌, ◌+◌, ◌++◌, List, length, All}
 use Rattle.numbered_store.specs.Stores.{kept_in}
-use Rattle.gate_lock.specs.Bags.{ReturnsEach}
+use Rattle.permit_bag.specs.Bags.{ReturnsEach}
 use Rattle.gate_lock.specs.Desks.{out_of, Pass}
-use Rattle.gate_lock.proofs.bag.return_each.Given as goal
+use Rattle.permit_bag.proofs.bag.return_each.Given as goal
 
 abbrev pub invariant-loop-permit : goal.invariant-loop-permit
 invariant-loop-permit g l =

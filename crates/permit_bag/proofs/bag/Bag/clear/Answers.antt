@@ -1,7 +1,7 @@
 -- Between the permits and the fetches the desk is as the first part leaves it.
 use Rattle.std.proofs.Common.{subst}
-use Rattle.gate_lock.specs.Bags.{FinishesEach, ReturnsEach}
-use Rattle.gate_lock.proofs.bag.Bag.clear.Goals as goal
+use Rattle.permit_bag.specs.Bags.{FinishesEach, ReturnsEach}
+use Rattle.permit_bag.proofs.bag.Bag.clear.Goals as goal
 
 pub returns-clause-step : goal.returns-clause-step
 returns-clause-step g c = (

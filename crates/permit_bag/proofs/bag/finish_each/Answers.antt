@@ -2,10 +2,10 @@
 use Rattle.std.proofs.Common.{◌≡◌, ◌++◌, [], ◌∷◌, List, ap, ◌∙◌, append_assoc, length, rules, subst, sym, arith}
 use Rattle.std.proofs.lemmas.List.Elements.{All-pop}
 use Rattle.numbered_store.specs.Stores.{kept_in}
-use Rattle.gate_lock.specs.Bags.{FinishesEach}
+use Rattle.permit_bag.specs.Bags.{FinishesEach}
 use Rattle.gate_lock.specs.Desks.{Pass, Run}
 use Rattle.gate_lock.specs.Steps.{DeskFinishes, Somewhere}
-use Rattle.gate_lock.proofs.bag.finish_each.Goals as goal
+use Rattle.permit_bag.proofs.bag.finish_each.Goals as goal
 
 pub loop-run-preserved : goal.loop-run-preserved
 loop-run-preserved g c =

@@ -2,11 +2,11 @@
 use Rattle.std.proofs.Common.{◌≡◌, ◌==◌, ◌&&◌, true, ◌∷◌, sym, ap, ◌∙◌, length, subst, IfSome, Ok, Err, IsPermutation, arith}
 use Rattle.std.specs.Str.{bytes_eq}
 use Rattle.numbered_store.specs.Stores.{kept_in}
-use Rattle.gate_lock.specs.Bags.{pass_of}
+use Rattle.permit_bag.specs.Bags.{pass_of}
 use Rattle.gate_lock.specs.Desks.{Pass, Run}
 use Rattle.gate_lock.specs.Steps.{DeskStarts, Somewhere}
-use Rattle.gate_lock.proofs.Holding.{arm_of, less, more, named, there}
-use Rattle.gate_lock.proofs.bag.Bag.start.Goals as goal
+use Rattle.permit_bag.proofs.Holding.{arm_of, less, more, named, there}
+use Rattle.permit_bag.proofs.bag.Bag.start.Goals as goal
 
 pub start-requires : goal.start-requires
 start-requires g c =

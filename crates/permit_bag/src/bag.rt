@@ -3,16 +3,14 @@
 ghost use Rattle.std.specs.Prelude.{◌≡◌, ◌+◌, ◌<◌, [], false, IfErr, IfNone, IfOk, IfSome, length, OnErr, OnOk, IsOk};
 ghost use Rattle.std.specs.List.{All};
 ghost use Rattle.std.specs.Option.{option_copied};
-ghost use Rattle.gate_lock.specs.Bags.{BagFinishes, BagReturns, BagStarts, Clears, FinishesEach, has_permit, held_in, HoldsSame, IsCleared, IsUrlIn, KeepsBalance, KeepsPermit, LosesPermit, ReturnsEach};
+ghost use Rattle.permit_bag.specs.Bags.{BagFinishes, BagReturns, BagStarts, Clears, FinishesEach, has_permit, held_in, HoldsSame, IsCleared, IsUrlIn, KeepsBalance, KeepsPermit, LosesPermit, ReturnsEach};
 ghost use Rattle.gate_lock.specs.Desks.{out_of};
 ghost use Rattle.numbered_store.specs.Stores.{kept_in};
 
-use crate::desk::Desk;
-use crate::ledgers::Gate;
-use crate::linear_values::{Permit, Running};
 use gate_core::Denial;
 use gate_history::{Cause, Reason};
-use numbered_store::{Numbered, Sought, Store};
+use gate_lock::{Desk, Gate, Permit, Running};
+use numbered_store::{Sought, Store};
 use path_normal::PageUrl;
 use permit_book::{NotOut, PermitNo};
 use robots_text::Token;
@@ -33,7 +31,7 @@ pub struct Bag<G: Gate> {
 impl<G: Gate> Model for Bag<G> {
     ghost use Rattle.std.specs.Prelude.{◌≡◌, ◌≤◌, ◌-◌, length, min};
     ghost use Rattle.std.specs.List.{All};
-    ghost use Rattle.gate_lock.specs.Bags.{BagView};
+    ghost use Rattle.permit_bag.specs.Bags.{BagView};
     ghost use Rattle.numbered_store.specs.Stores.{kept_in};
 
     ghost Value = { BagView };
@@ -48,22 +46,6 @@ impl<G: Gate> Model for Bag<G> {
     ghost invariant = { λ bag. All (λ p. p.desk ≡ bag.desk) (kept_in bag.permits)
         × All (λ r. r.pass.desk ≡ bag.desk) (kept_in bag.runs)
         × (length (kept_in bag.permits) ≤ bag.runs.room) };
-}
-
-impl<G: Gate> Numbered for Permit<G> {
-    ghost named = { λ permit. permit.number };
-
-    fn numbered(&self) -> u64 {
-        self.number().number()
-    }
-}
-
-impl<G: Gate> Numbered for Running<G> {
-    ghost named = { λ run. run.pass.number };
-
-    fn numbered(&self) -> u64 {
-        self.number().number()
-    }
 }
 
 struct Any;

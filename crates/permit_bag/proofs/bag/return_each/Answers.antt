@@ -2,9 +2,9 @@
 use Rattle.std.proofs.Common.{◌≡◌, ◌++◌, [], ◌∷◌, List, ap, ◌∙◌, append_assoc, arith, length, rules, subst, sym}
 use Rattle.std.proofs.lemmas.List.Elements.{All-pop}
 use Rattle.numbered_store.specs.Stores.{kept_in}
-use Rattle.gate_lock.specs.Bags.{ReturnsEach}
+use Rattle.permit_bag.specs.Bags.{ReturnsEach}
 use Rattle.gate_lock.specs.Desks.{Pass}
-use Rattle.gate_lock.proofs.bag.return_each.Goals as goal
+use Rattle.permit_bag.proofs.bag.return_each.Goals as goal
 
 pub loop-permit-preserved : goal.loop-permit-preserved
 loop-permit-preserved g c =
