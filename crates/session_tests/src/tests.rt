@@ -9,7 +9,8 @@ mod turns;
 
 use command_server::{DeskKeeper, Keeper, SessionFault, serve};
 use counted_io::{FailAt, Sink, Source};
-use gate_lock::{Gate, GateLock, SettleFault, Settled, settle};
+use gate_lock::{Gate, GateLock};
+use gate_settlement::{SettleFault, Settled, settle};
 use scripted_sites::{FixedClock, ScriptedPage, ScriptedSites};
 use std::alloc::Global;
 use std::sync::Wait;

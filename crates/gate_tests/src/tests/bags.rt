@@ -1,15 +1,17 @@
 //! A bag: its permit starts once, and ends once.
 //! RFC 9309, section 2.4.
 ghost use Rattle.std.specs.Prelude.{◌≡◌, ◌+◌};
-ghost use Rattle.gate_lock.specs.Bags.{held_in, KeepsBalance};
+ghost use Rattle.permit_bag.specs.Bags.{held_in, KeepsBalance};
 ghost use Rattle.gate_lock.specs.Desks.{out_of};
 
 use super::desk_calls::{CallForm, fetch, granted};
 use super::gates::{PAGE, book};
 use gate_core::Denial;
 use gate_history::{Cause, Reason};
-use gate_lock::{Bag, Desk, Gate, GateLock, Permit, Visit, with_gate};
+use gate_lock::{Desk, Gate, GateLock, Permit};
+use gate_settlement::{Visit, with_gate};
 use path_normal::{Authority, PageUrl};
+use permit_bag::Bag;
 use permit_book::{NotOut, PermitNo};
 use robots_text::Token;
 use std::alloc::Global;

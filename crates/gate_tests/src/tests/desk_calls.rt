@@ -7,10 +7,8 @@ use super::gates::PAGE;
 use authority_cache::{LIFE, TimedAnswer};
 use gate_core::{AskRefusal, BeginRefusal, State, SweepRefusal};
 use gate_history::Cause;
-use gate_lock::{
-    Desk, DeskAsk, DesksFull, Gate, GateLock, Permit, Receipts, RobotsTurn, SettleFault, Settled,
-    settle,
-};
+use gate_lock::{Desk, DeskAsk, DesksFull, Gate, GateLock, Permit, Receipts, RobotsTurn};
+use gate_settlement::{SettleFault, Settled, settle};
 use path_normal::{Authority, PageUrl};
 use robots_text::Token;
 use robots_verdict::{Answer, Opening};

@@ -8,10 +8,10 @@ use super::desk_calls::{CallForm, asked, fetch, granted};
 use super::gates::{PAGE, add_entries, book};
 use gate_core::AskRefusal;
 use gate_history::{Cause, Entry, Reason};
-use gate_lock::{
-    Bag, Desk, Gate, GateLock, Mark, Receipts, SettleFault, Settled, Visit, settle, with_gate,
-};
+use gate_lock::{Desk, Gate, GateLock, Mark, Receipts};
+use gate_settlement::{SettleFault, Settled, Visit, settle, with_gate};
 use path_normal::{Authority, PageUrl};
+use permit_bag::Bag;
 use robots_text::Token;
 use std::alloc::Global;
 use std::hash::RandomState;

@@ -4,7 +4,8 @@
 use super::{demand, session_at};
 use counted_io::FailAt;
 use gate_core::Limits;
-use gate_lock::{Gate, GateLock, SettleFault, Settled, Visit, with_gate};
+use gate_lock::{Gate, GateLock};
+use gate_settlement::{SettleFault, Settled, Visit, with_gate};
 use scripted_sites::new_book;
 use std::alloc::Global;
 use std::random::RandomSource;

@@ -3,7 +3,8 @@
 use super::leaves::{open_site, page_text};
 use super::pages::pages_of;
 use gate_core::Limits;
-use gate_lock::{Gate, GateLock, Visit, with_gate};
+use gate_lock::{Gate, GateLock};
+use gate_settlement::{Visit, with_gate};
 use path_normal::PageUrl;
 use scripted_sites::{ScriptedSites, new_book};
 use std::alloc::Global;
