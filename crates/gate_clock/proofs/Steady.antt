@@ -1,9 +1,9 @@
 -- What is ahead only grows, so the moments go on by the seconds of the steady clock.
 -- Used by the laws of the clock.
-use Rattle.std.proofs.Common.{◌≡◌, ◌+◌, ◌-◌, ◌/◌, ◌≤◌, ◌++◌, ◌∷◌, [], ℕ, List, max, arith, refl}
+use Rattle.std.proofs.Common.{◌≤◌, ◌++◌, ◌∷◌, [], ℕ, List, arith}
 use Rattle.gate_clock.specs.declared.moments.Reading.{Reading}
-use Rattle.gate_clock.specs.Moments.{ahead_after, ahead_after_all, moment_at, moment_after}
-use Rattle.gate_clock.specs.Laws.{IsSteady, seconds_between}
+use Rattle.gate_clock.specs.Moments.{ahead_after, ahead_after_all}
+use Rattle.gate_clock.specs.Laws.{IsSteady}
 
 -- readings only raise what is ahead
 grows : (ahead : ℕ) (readings : List Reading) → ahead ≤ ahead_after_all ahead readings

@@ -1,11 +1,11 @@
 -- What a steady clock keeps: the life of an answer, also where the wall clock is set back.
 -- The contracts of `laws.rt`. RFC 9309, section 2.4.
-use Rattle.std.specs.Prelude.{◌≡◌, ◌≤◌, ◌+◌, ◌-◌, ◌/◌, ℕ, List, ◌++◌, ◌∷◌, [], true}
+use Rattle.std.specs.Prelude.{◌≡◌, ◌≤◌, ◌+◌, ◌-◌, ◌/◌, ℕ, List, ◌++◌, ◌∷◌, true}
 use Rattle.authority_cache.specs.Lives.{greatest_life}
 use Rattle.gate_core.specs.Headline.{Allows}
 use Rattle.gate_history.specs.History.{History}
 use Rattle.gate_clock.specs.declared.moments.Reading.{Reading}
-use Rattle.gate_clock.specs.Moments.{ahead_after, ahead_after_all, day_past, epoch_of, is_set_back, moment_at, moment_after}
+use Rattle.gate_clock.specs.Moments.{epoch_of, is_set_back, moment_after}
 
 -- whole seconds of the steady clock from one reading to another
 abbrev pub seconds_between : Reading → Reading → ℕ
@@ -30,9 +30,9 @@ LastsADay = (h : History) (token url : List ℕ) (moment epoch ahead : ℕ) (bef
 
 -- where the wall clock was set back before a gate goes on, no answer of before allows a start
 abbrev pub EndsAll : Type 0
-EndsAll = (h : History) (token url : List ℕ) (moment last wall ahead : ℕ) (before : List Reading) (one : Reading)
+EndsAll = (h : History) (token url : List ℕ) (moment last wall : ℕ)
     → is_set_back last wall ≡ true
-    → moment_after (epoch_of last wall) ahead before one ≤ moment
+    → epoch_of last wall ≤ moment
     → (allowed : Allows h token url moment)
     → allowed.answer.begun ≤ last
     → ⊥

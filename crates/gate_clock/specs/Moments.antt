@@ -1,7 +1,9 @@
 -- The moments of a clock that goes on by a steady clock wherever the wall clock was set back.
 -- Cited by `moments.rt` and `steady_clock.rt`. RFC 9309, section 2.4.
-use Rattle.std.specs.Prelude.{ℕ, ◌+◌, ◌-◌, ◌/◌, max, Bool, nat_lt, if◌then◌else◌, List, [], ◌∷◌}
+use Rattle.std.specs.Prelude.{◌≡◌, ◌↔◌, ℕ, ◌+◌, ◌-◌, ◌/◌, ◌^◌, max, min, Bool, false, nat_lt, if◌then◌else◌, List, [], ◌∷◌}
 use Rattle.gate_clock.specs.declared.moments.Reading.{Reading}
+use Rattle.gate_clock.specs.declared.steady_clock.Beginning.{Beginning}
+use Rattle.gate_clock.specs.declared.steady_clock.Beginning.TheVariants.{GoesOn}
 
 -- by how many seconds the wall clock may be behind a gate's last moment when the gate goes on
 abbrev pub slack_seconds : ℕ
@@ -36,3 +38,9 @@ moment_at epoch ahead reading = epoch + (reading.elapsed + ahead) / 1_000_000_00
 -- the moment of a reading behind others
 abbrev pub moment_after : ℕ → ℕ → List Reading → Reading → ℕ
 moment_after epoch ahead before reading = moment_at epoch (ahead_after (ahead_after_all ahead before) reading) reading
+
+-- a clock counts from the epoch of a gate's last moment and what the wall clock showed, and how it goes on says whether that
+-- was set back
+abbrev pub BeginsAt : ℕ → ℕ → Beginning → Type 0
+BeginsAt last epoch beginning =
+    (wall : ℕ) × ((epoch ≡ min (epoch_of last wall) (2 ^ 64 - 1)) × ((beginning ≡ GoesOn) ↔ (is_set_back last wall ≡ false)))

@@ -15,6 +15,7 @@ pub const DAY_PAST: u64 = 86_401;
 
 // 146 years in nanoseconds; more is never counted.
 pub(crate) const MOST_NANOSECONDS: u64 = 1 << 62;
+
 const NANOSECONDS: u64 = 1_000_000_000;
 
 /// What both clocks show: by how many nanoseconds the wall clock is past the epoch, and the nanoseconds of

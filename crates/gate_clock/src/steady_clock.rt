@@ -1,8 +1,11 @@
 //! `SteadyClock`: the clock that gives a gate's moments.
 //! Two threads may read it at once: how far it is ahead only grows.
 ghost use Rattle.std.specs.Prelude.{◌≡◌, ◌≤◌, ◌^◌};
+ghost use Rattle.gate_clock.specs.Moments.{BeginsAt};
 
-use crate::moments::{MOST_NANOSECONDS, Reading, ahead_after, epoch_of, is_set_back, moment_at, nanoseconds};
+use crate::moments::{
+    MOST_NANOSECONDS, Reading, ahead_after, epoch_of, is_set_back, moment_at, nanoseconds,
+};
 use page_worker::Clock;
 use std::sync::atomic::{AtomicU64, Ordering};
 use std::sync::{Mutex, Wait};
@@ -36,7 +39,9 @@ pub struct SteadyClock<'a, R: Wait + time::Clock> {
 impl<'a, R: Wait + time::Clock> SteadyClock<'a, R> {
     /// A clock that goes on from a gate's last moment, in seconds; 0 for a new gate. A clock that can't be
     /// read shows 0.
-    pub fn new(rt: &'a R, last: u64) -> (SteadyClock<'a, R>, Beginning) {
+    pub fn new(rt: &'a R, last: u64) -> (SteadyClock<'a, R>, Beginning)
+        ensures { BeginsAt last result.0.epoch result.1 }
+    {
         let wall = wall_of(rt).as_secs();
         let began = steady_of(rt);
         let beginning = if is_set_back(last, wall) {
@@ -86,12 +91,20 @@ impl<'a, R: Wait + time::Clock> SteadyClock<'a, R> {
 }
 
 impl<R: Wait + time::Clock> Clock for SteadyClock<'_, R> {
+    ghost use Rattle.std.specs.Prelude.{◌≤◌};
+
+    ghost reads = { λ clock moment. clock.epoch ≤ moment };
+
     fn now(&self) -> u64 {
         let reading = self.read();
         // (it is loaded behind the reading: a moment that was handed in before has raised it by now)
         let before = self.ahead();
         let own = ahead_after(before, reading);
-        let ahead = if own > before { self.raise(own) } else { before };
+        let ahead = if own > before {
+            self.raise(own)
+        } else {
+            before
+        };
         moment_at(self.epoch, ahead, reading)
     }
 }
