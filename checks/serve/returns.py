@@ -1,17 +1,15 @@
 """Cases of checks/serve with a server that is killed and started again, under the client in Python."""
 import contextlib
 import tempfile
-import threading
 import time
 
 from lib.cases import in_time, same
-from lib.server import SECONDS, Server, side_by_side
-from lib.sites import Site, free_port, response
+from lib.server import SECONDS, Restarted, side_by_side
+from lib.sites import Site, response
 from clients import python_client
 
 CLIENT = python_client()
 PAGES = 40
-AWAY = 2.0
 RULES = b"user-agent: *\ndisallow: /private/\n"
 
 
@@ -32,36 +30,8 @@ class Fatal(Site):
         return [self.url(f"/private/{it}" if it % 7 == 3 else f"/{it}") for it in range(PAGES)]
 
 
-class Restarted:
-    """A server that is killed, and started again at the same place later."""
-
-    def __init__(self, *words, path=None):
-        self.words, self.place = words, {"path": path} if path else {"port": free_port()}
-        self.server = Server(*words, **self.place)
-        self.thread = None
-
-    def __enter__(self):
-        return self
-
-    def __exit__(self, *_):
-        if self.thread:
-            self.thread.join(SECONDS)
-        self.server.__exit__()
-
-    def gate(self, **named):
-        return CLIENT.Gate.at(self.server.path or str(self.server.port), SECONDS, **named)
-
-    def kill(self):
-        self.server.__exit__()
-
-    def start(self):
-        self.server = Server(*self.words, **self.place)
-
-    def restart(self, seconds=AWAY):
-        """Kills it, and has it started again after some seconds."""
-        self.kill()
-        self.thread = threading.Timer(seconds, self.start)
-        self.thread.start()
+def gate_of(restarted, **named):
+    return CLIENT.Gate.at(str(restarted.place), SECONDS, **named)
 
 
 def by_permit(gate, url):
@@ -96,7 +66,7 @@ def comes_back():
             site = Fatal(server.restart)
             wanted = [it.removeprefix(site.url("")).encode() for it in site.urls()]
             denied = f"NO {site.authority}".encode()
-            with server.gate() as gate:
+            with gate_of(server) as gate:
                 got = what_came(gate, site.urls(), get)
             same([denied if it.startswith(denied) else it for it in got], [denied if b"private" in it else it for it in wanted])
             # (the page under way is fetched again where the gate fetches it)
@@ -111,7 +81,7 @@ def stays_away():
     """A server that is away for longer than it is waited for is an error, at once from then on; and once it is there again, the
     next line is answered."""
     site = Fatal(None)
-    with Restarted() as server, server.gate(away=1) as gate:
+    with Restarted() as server, gate_of(server, away=1) as gate:
         same(by_permit(gate, site.url("/1")), b"/1")
         server.kill()
         for least, most in ((1, 10), (0, 0.9)):
@@ -134,7 +104,7 @@ def error_of(call, *words):
 def numbers_of_before():
     """A server without a journal grants the numbers of before again: the end of an old fetch does not end another page's."""
     site = Fatal(None)
-    with Restarted() as server, server.gate() as gate:
+    with Restarted() as server, gate_of(server) as gate:
         first = contextlib.ExitStack()
         first.enter_context(gate.permit("foobot", site.url("/1")))
         old = gate.ask("foobot", site.url("/2"))
