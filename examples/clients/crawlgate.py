@@ -142,7 +142,7 @@ class Gate:
         # the numbers of permits that are out, those that went back with a connection, and when robots.txt files were fetched
         self._out, self._lost, self._refreshed = set(), set(), {}
         # how many connections there were, since when no reply has come, and whether this Gate is at its end
-        self._connections, self._away_since, self._is_closed, self._peer = 0, None, False, None
+        self._connections, self._away_since, self._is_closed, self._peer, self._replies = 0, None, False, None, None
         self._come_back()
 
     def __enter__(self):
@@ -152,7 +152,7 @@ class Gate:
         """Ends the session, by which all its permits are given back."""
         # (where the connection ends the session has ended, too)
         with contextlib.closing(self), contextlib.suppress(OSError):
-            if kind is None and self._peer:
+            if kind is None:
                 self.quit()
 
     def close(self):
@@ -244,7 +244,8 @@ class Gate:
 
     def quit(self):
         """Ends the session. When it returns, the session's permits have gone back."""
-        self._say("BYE", "QUIT")
+        if self._peer:
+            self._say("BYE", "QUIT")
         self.close()
 
     @contextlib.contextmanager

@@ -68,7 +68,7 @@ class GateHandler(HTTP11DownloadHandler):
         super().__init__(settings, crawler)
         # (Twisted would send a request again by itself where a connection that it has kept ends, without a start)
         self._pool.retryAutomatically = False
-        # what keeps no connection
+        # for a second try: a handler that keeps no connection open
         self._anew = HTTP11DownloadHandler(settings, crawler)
         self._anew._pool.persistent = False
         self._token, place = settings.get("CRAWLGATE_TOKEN"), settings.get("CRAWLGATE_PLACE")
