@@ -1,5 +1,6 @@
 """Cases of checks/serve with a server that is killed and started again, under the client in Python."""
 import contextlib
+import itertools
 import tempfile
 import time
 
@@ -73,8 +74,7 @@ def comes_back():
             asked = [it for it in site.asked if it != "/robots.txt"]
             same((len(asked), len(set(asked))), (len(set(asked)) + (get is by_fetch), sum(b"private" not in it for it in wanted)))
 
-    rows = [(get, is_journal, is_socket) for get in (by_permit, by_fetch) for is_journal in (False, True) for is_socket in (False, True)]
-    side_by_side(lambda row: play(*row), rows)
+    side_by_side(lambda row: play(*row), list(itertools.product((by_permit, by_fetch), (False, True), (False, True))))
 
 
 def stays_away():
