@@ -145,5 +145,5 @@ def crawl(given, *words, program=None, descriptors=None, **environment):
     words = [f"{ROOT}/examples/many-machines/crawl", *words]
     if descriptors:
         words = ["sh", "-c", f'ulimit -n {descriptors} && exec "$@"', "sh", *words]
-    ran = subprocess.run(words, input=given.encode(), capture_output=True, timeout=2 * SECONDS, env=environment)
+    ran = subprocess.run(words, input=given.encode(), capture_output=True, timeout=8 * SECONDS, env=environment)
     return ran.stdout.decode(), ran.returncode
