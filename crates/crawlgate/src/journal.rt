@@ -14,14 +14,13 @@ use journal_resume::{ResumeFault, Resumed, resume};
 use path_normal::{Authority, Schemes};
 use program_arguments::JournalOptions;
 use program_commands::{
-    Ending, Reasoned, new_book, tell_bad_folder, tell_bad_journal, tell_clock_set_back, tell_few_slots,
-    tell_full_journal, tell_short_journal, tell_torn_line, tell_unread_journal,
+    Ending, Reasoned, new_book, tell_bad_folder, tell_bad_journal, tell_clock_set_back,
+    tell_few_slots, tell_full_journal, tell_short_journal, tell_torn_line, tell_unread_journal,
 };
 use std::hash::RandomState;
-use std::io;
 use std::io::ErrorKind;
 use std::sync::Wait;
-use std::time;
+use std::{io, time};
 
 /// The locked folder of a journal, with its name and sync policy.
 #[derive(Drop)]
