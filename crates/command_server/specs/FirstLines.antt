@@ -1,5 +1,5 @@
--- First lines that end a session: HTTP request lines (RFC 9112, section 3: method, target and version), and lines that are no
--- text, as TLS begins with (RFC 8446, section 5.1).
+-- First lines that end a session: HTTP request lines (RFC 9112, section 3: method, target and version), and lines
+-- that are no text, as TLS begins with (RFC 8446, section 5.1).
 -- Cited by `serve_from`.
 use Rattle.std.specs.Prelude.{ℕ, zero, suc, ◌-◌, Bool, true, false, not, ◌||◌, ◌&&◌, List, codes, drop, length}
 use Rattle.std.specs.Str.{bytes_eq}

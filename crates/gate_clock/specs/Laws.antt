@@ -4,24 +4,28 @@ use Rattle.std.specs.Prelude.{◌≡◌, ◌≤◌, ◌+◌, ◌-◌, ◌/◌, �
 use Rattle.authority_cache.specs.Lives.{greatest_life}
 use Rattle.gate_core.specs.Headline.{Allows}
 use Rattle.gate_history.specs.History.{History}
-use Rattle.gate_clock.specs.declared.moments.Reading.{Reading}
+use Rattle.gate_clock.specs.declared.moments.ClockReading.{ClockReading}
 use Rattle.gate_clock.specs.Moments.{epoch_of, is_set_back, moment_after}
 
 -- whole seconds of the steady clock from one reading to another
-abbrev pub seconds_between : Reading → Reading → ℕ
+abbrev pub seconds_between : ClockReading → ClockReading → ℕ
 seconds_between one other = (other.elapsed - one.elapsed) / 1_000_000_000
 
--- the wall clock is never ahead of the moment of its reading, and from one reading to a later one the moments go on by at
--- least the seconds of the steady clock between them
-pub record IsSteady (epoch ahead : ℕ) (before : List Reading) (one : Reading) (between : List Reading) (other : Reading) : Type 0 where
+-- the wall clock is never ahead of the moment of its reading, and from one reading to a later one the moments go on
+-- by at least the seconds of the steady clock between them
+pub record IsSteady (epoch ahead : ℕ) (before : List ClockReading) (one : ClockReading)
+    (between : List ClockReading) (other : ClockReading) : Type 0 where
   pub wall : epoch + one.past / 1_000_000_000 ≤ moment_after epoch ahead before one
   pub seconds : one.elapsed ≤ other.elapsed →
-      moment_after epoch ahead before one + seconds_between one other ≤ moment_after epoch ahead (before ++ one ∷ between) other
+      moment_after epoch ahead before one + seconds_between one other
+      ≤ moment_after epoch ahead (before ++ one ∷ between) other
 
--- whatever the wall clock did: where a reading is no earlier than the begin of the fetch of an answer, and a later one no
--- later than a start that the answer allows, at most a day of the steady clock lies between them
+-- whatever the wall clock did: where the moment of a reading is no earlier than the begin of the fetch of an answer,
+-- and that of a later one no later than a start that the answer allows, at most a day of the steady clock lies between
+-- the two
 abbrev pub LastsADay : Type 0
-LastsADay = (h : History) (token url : List ℕ) (moment epoch ahead : ℕ) (before : List Reading) (one : Reading) (between : List Reading) (other : Reading)
+LastsADay = (h : History) (token url : List ℕ) (moment epoch ahead : ℕ)
+    (before : List ClockReading) (one : ClockReading) (between : List ClockReading) (other : ClockReading)
     → one.elapsed ≤ other.elapsed
     → (allowed : Allows h token url moment)
     → allowed.answer.begun ≤ moment_after epoch ahead before one

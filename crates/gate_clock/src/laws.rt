@@ -1,14 +1,14 @@
 //! Laws of the clock: what it keeps wherever the wall clock is set.
 //! RFC 9309, section 2.4.
 ghost use Rattle.std.specs.Prelude.{ℕ, List};
-ghost use Rattle.gate_clock.specs.declared.moments.Reading.{Reading as ReadingValue};
+ghost use Rattle.gate_clock.specs.declared.moments.ClockReading.{ClockReading as Shown};
 ghost use Rattle.gate_clock.specs.Laws.{EndsAll, IsSteady, LastsADay};
 
 /// The moments are never behind the wall clock, nor behind an earlier moment and the seconds of the steady
 /// clock since.
 pub fn the_clock_is_steady()
-    ensures { (epoch ahead : ℕ) (before : List ReadingValue) (one : ReadingValue) (between : List ReadingValue) (other : ReadingValue)
-        → IsSteady epoch ahead before one between other }
+    ensures { (epoch ahead : ℕ) (before : List Shown) (one : Shown) (between : List Shown)
+        (other : Shown) → IsSteady epoch ahead before one between other }
 {}
 
 /// Between the fetch of a robots.txt and a start that it allows lies at most a day of the steady clock.

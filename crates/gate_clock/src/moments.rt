@@ -21,7 +21,7 @@ const NANOSECONDS: u64 = 1_000_000_000;
 /// What both clocks show: by how many nanoseconds the wall clock is past the epoch, and the nanoseconds of
 /// the steady clock since the clock began.
 #[derive(Clone, Copy, Debug)]
-pub(crate) struct Reading {
+pub(crate) struct ClockReading {
     pub(crate) past: u64,
     pub(crate) elapsed: u64,
 }
@@ -46,14 +46,14 @@ pub(crate) fn is_set_back(last: u64, wall: u64) -> bool
 }
 
 /// By how many nanoseconds the moments are ahead of the steady clock, after a reading.
-pub(crate) fn ahead_after(ahead: u64, reading: Reading) -> u64
+pub(crate) fn ahead_after(ahead: u64, reading: ClockReading) -> u64
     ensures { result ≡ ahead_after ahead reading }
 {
     ahead.max(reading.past.saturating_sub(reading.elapsed))
 }
 
 /// The moment of a reading, in seconds, where the moments are so far ahead.
-pub(crate) fn moment_at(epoch: u64, ahead: u64, reading: Reading) -> u64
+pub(crate) fn moment_at(epoch: u64, ahead: u64, reading: ClockReading) -> u64
     requires elapsed { reading.elapsed ≤ 2 ^ 62 }
     requires ahead { ahead ≤ 2 ^ 62 }
     ensures { result ≡ min (moment_at epoch ahead reading) (2 ^ 64 - 1) }

@@ -4,7 +4,7 @@ ghost use Rattle.std.specs.Prelude.{◌≡◌, ◌≤◌, ◌^◌};
 ghost use Rattle.gate_clock.specs.Moments.{BeginsAt};
 
 use crate::moments::{
-    MOST_NANOSECONDS, Reading, ahead_after, epoch_of, is_set_back, moment_at, nanoseconds,
+    ClockReading, MOST_NANOSECONDS, ahead_after, epoch_of, is_set_back, moment_at, nanoseconds,
 };
 use page_worker::Clock;
 use std::sync::atomic::{AtomicU64, Ordering};
@@ -59,13 +59,13 @@ impl<'a, R: Wait + time::Clock> SteadyClock<'a, R> {
         (clock, beginning)
     }
 
-    fn read(&self) -> Reading
+    fn read(&self) -> ClockReading
         ensures past { result.past ≤ 2 ^ 62 }
         ensures elapsed { result.elapsed ≤ 2 ^ 62 }
     {
         let past = wall_of(self.rt).saturating_sub(Duration::from_secs(self.epoch));
         let elapsed = steady_of(self.rt).saturating_sub(self.began);
-        Reading {
+        ClockReading {
             past: nanoseconds(past),
             elapsed: nanoseconds(elapsed),
         }
