@@ -1,4 +1,6 @@
 """Sites on the loopback, each connection of which has one request."""
+import os
+import random
 import socket
 import struct
 import threading
@@ -18,8 +20,16 @@ def reset(peer):
 
 
 def free_port():
-    with socket.create_server((HOST, 0)) as listener:
-        return listener.getsockname()[1]
+    """Returns a port at which nothing listens, below those that the system gives to others. Scripts that run side by side draw
+    from a hundred each, the first of which CRAWLGATE_PORTS names."""
+    first = int(os.environ.get("CRAWLGATE_PORTS", 10_000 + os.getpid() % 200 * 100))
+    for port in random.sample(range(first, first + 100), 100):
+        try:
+            with socket.create_server((HOST, port)):
+                return port
+        except OSError:
+            pass
+    raise OSError(f"no port from {first} on is free")
 
 
 class Requests:

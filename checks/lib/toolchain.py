@@ -1,6 +1,7 @@
-"""How `rt` checks and builds a crate, for checks/build and checks/edits: they do what no words of `rt` do, several crates at
-a time and copies of crates with an edit, and so take it from `rt`'s own modules. Those belong to no interface: they were read
-in the kits of the names below, and what is taken of them is looked for before anything is done.
+"""How `rt` checks and builds a crate, for checks/build, checks/edits and checks/must_not_compile: they do what no words of
+`rt` do, several crates at a time and copies of crates with an edit, and so take it from `rt`'s own modules. Those belong to no
+interface: they were read in the kits of the names below, and what is taken of them is looked for before anything is done.
+What only newer kits have, the sums by which `rt ci` keeps what passed, is used where it is there.
 """
 import importlib.machinery
 import importlib.util

@@ -4,7 +4,7 @@ use Rattle.std.specs.Prelude.{◌≡◌, ℕ, List, Option}
 use Rattle.std.specs.Io.KnownBytes.{Appends}
 use Rattle.gate_core.specs.Gate.{Gate, HasLegalHistory}
 use Rattle.gate_marks.specs.Marks.{Receipt}
-use Rattle.gate_lock.specs.Settling.{AreHistory}
+use Rattle.gate_settlement.specs.Settling.{AreHistory}
 use Rattle.history_text.specs.Exports.{present_segment}
 use Rattle.history_text.specs.SpellBase.{spell_segment}
 use Rattle.crawl_job.specs.declared.job.Job.{Job}

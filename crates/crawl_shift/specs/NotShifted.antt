@@ -2,7 +2,7 @@
 -- The conversions of `not_shifted` cite it.
 use Rattle.crawl_workers.specs.declared.report.ShiftFault.{ShiftFault}
 use Rattle.crawl_workers.specs.declared.report.ShiftFault.TheVariants as shift
-use Rattle.gate_lock.specs.declared.settlement.SettleFault.TheVariants as settle
+use Rattle.gate_settlement.specs.declared.settlement.SettleFault.TheVariants as settle
 use Rattle.crawl_shift.specs.declared.job_list.JobsFault.{JobsFault}
 use Rattle.crawl_shift.specs.declared.job_list.JobsFault.TheVariants as jobs_fault
 use Rattle.crawl_shift.specs.declared.not_shifted.NotShifted.{NotShifted}

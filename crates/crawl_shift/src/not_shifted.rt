@@ -2,7 +2,7 @@
 use crate::job_list::JobsFault;
 use counted_io::DeviceFault;
 use crawl_workers::ShiftFault;
-use gate_lock::SettleFault;
+use gate_settlement::SettleFault;
 use std::alloc::AllocError;
 
 /// Why a shift has no whole report.

@@ -5,8 +5,8 @@ use Rattle.std.specs.Prelude.{Ok}
 use Rattle.std.specs.List.{AllZip}
 use Rattle.std.proofs.lemmas.List.{take-append-le, take_all}
 use Rattle.gate_marks.specs.Marks.{Receipt, SealedView, handed_at_all, starts_of_all}
-use Rattle.gate_lock.specs.Settling.{IsWholeUnlessSealed, SettlesSome}
-use Rattle.gate_lock.specs.declared.settlement.Settled.{Settled}
+use Rattle.gate_settlement.specs.Settling.{IsWholeUnlessSealed, SettlesSome}
+use Rattle.gate_settlement.specs.declared.settlement.Settled.{Settled}
 use Rattle.job_line.specs.Sums.{weigh_all, weigh_below}
 use Rattle.crawl_workers.specs.declared.crew.Done.{Done}
 use Rattle.crawl_job.specs.declared.job.Job.{Job}

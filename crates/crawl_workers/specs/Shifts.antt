@@ -3,10 +3,10 @@
 -- Used by `run_shift`, and by shifts over texts.
 use Rattle.std.specs.Prelude.{◌≡◌, ℕ, ◌+◌, ◌++◌, List, [], ◌∷◌, length, map, Ok, Some}
 use Rattle.std.specs.List.{AllZip, slice_get}
-use Rattle.gate_lock.specs.Settling.{IsWhole, SettlesSome}
+use Rattle.gate_settlement.specs.Settling.{IsWhole, SettlesSome}
 use Rattle.gate_history.specs.declared.entry.Entry.{Entry}
 use Rattle.gate_marks.specs.Marks.{Receipt, nothing_sealed, starts_of_all}
-use Rattle.gate_lock.specs.declared.settlement.Settled.{Settled}
+use Rattle.gate_settlement.specs.declared.settlement.Settled.{Settled}
 use Rattle.job_line.specs.Sums.{weigh_all, weigh_below}
 use Rattle.crawl_workers.specs.declared.crew.Done.{Done}
 use Rattle.crawl_job.specs.declared.job.Job.{Job}

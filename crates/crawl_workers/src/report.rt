@@ -2,7 +2,8 @@
 //! For callers of `run_shift`.
 
 use crawl_job::{Hop, Job, Outcome};
-use gate_lock::{DesksFull, Gate, Receipts, SettleFault, Settled};
+use gate_lock::{DesksFull, Gate, Receipts};
+use gate_settlement::{SettleFault, Settled};
 use page_worker::Event;
 use std::alloc::AllocError;
 use std::marker::Model;

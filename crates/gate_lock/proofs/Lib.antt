@@ -2,8 +2,6 @@ pub mod Asking
 pub mod Beginning
 pub mod Counting
 pub mod Denying
-pub mod Holding
 pub mod Marking
 pub mod Replying
 pub mod Starts
-pub mod Whole

@@ -6,5 +6,3 @@ pub mod Past
 pub mod Desks
 pub mod Awaiting
 pub mod Steps
-pub mod Bags
-pub mod Settling

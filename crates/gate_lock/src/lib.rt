@@ -4,11 +4,9 @@
 
 mod ask;
 mod awaited;
-mod bag;
 mod condense;
 mod desk;
 mod desk_ask;
-mod fit;
 mod ledgers;
 mod linear_values;
 mod lock;
@@ -16,23 +14,16 @@ mod look;
 mod receipts;
 mod round;
 mod seal;
-mod settlement;
 mod shares;
 mod spend;
-mod started;
 mod tally;
 mod turns;
-mod visit;
 
-pub use bag::Bag;
 pub use desk::Desk;
 pub use desk_ask::DeskAsk;
-pub use fit::receipts_fit;
 pub use gate_marks::{Mark, SealedMarks, marks_fit};
 pub use ledgers::{Blanks, Gate};
 pub use linear_values::{Fetched, Permit, RobotsTurn, Running};
 pub use lock::{GateLock, Held, vouch};
 pub use receipts::Receipts;
-pub use settlement::{SettleFault, Settled, settle, settle_in};
 pub use tally::{DesksFull, MAX_DESKS};
-pub use visit::{Visit, with_gate};

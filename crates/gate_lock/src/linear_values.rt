@@ -6,6 +6,7 @@ use crate::ledgers::{Gate, RunningLedger, TurnLedger, UnspentLedger};
 use crate::shares::One;
 use authority_cache::TurnNo;
 use gate_history::Reason;
+use numbered_store::Numbered;
 use path_normal::{Authority, PageUrl};
 use permit_book::PermitNo;
 use robots_text::Token;
@@ -87,6 +88,14 @@ impl<L: Ledger> Pass<L> {
     }
 }
 
+impl<G: Gate> Numbered for Permit<G> {
+    ghost named = { λ permit. permit.number };
+
+    fn numbered(&self) -> u64 {
+        self.number().number()
+    }
+}
+
 /// A fetch that may be made once. It has no `Drop`: `spend` makes a `Fetched` of it. Dropping one would
 /// leave it running forever, with its slot and its authority's place taken.
 #[must_use]
@@ -148,6 +157,14 @@ impl<G: Gate> Running<G> {
     {
         let Running { fetched, reason: _ } = self;
         fetched
+    }
+}
+
+impl<G: Gate> Numbered for Running<G> {
+    ghost named = { λ run. run.pass.number };
+
+    fn numbered(&self) -> u64 {
+        self.number().number()
     }
 }
 

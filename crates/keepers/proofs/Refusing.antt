@@ -4,7 +4,7 @@ use Rattle.std.proofs.Common.{◌≡◌, ℕ, false, List, inr, true≢false}
 use Rattle.std.specs.Prelude.{Err, is_err, Ok, OnOk, Result}
 use Rattle.gate_core.specs.declared.refusal.AskRefusal.{AskRefusal}
 use Rattle.gate_core.specs.declared.refusal.AskRefusal.TheVariants as ask
-use Rattle.gate_lock.specs.Bags.{BagView, HoldsSame}
+use Rattle.permit_bag.specs.Bags.{BagView, HoldsSame}
 use Rattle.gate_lock.specs.Desks.{DeskView}
 use Rattle.gate_lock.specs.Steps.{DeskAsks, Somewhere}
 use Rattle.keepers.specs.DeskKeeping.{KeeperAsks}

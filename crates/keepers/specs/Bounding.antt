@@ -7,7 +7,7 @@ use Rattle.gate_core.specs.declared.refusal.BeginRefusal.{BeginRefusal}
 use Rattle.gate_core.specs.declared.refusal.BeginRefusal.TheVariants as begin
 use Rattle.gate_core.specs.declared.refusal.NoMemory.{NoMemory}
 use Rattle.gate_core.specs.declared.state.Standing.{Standing}
-use Rattle.gate_lock.specs.Bags.{BagView}
+use Rattle.permit_bag.specs.Bags.{BagView}
 use Rattle.gate_lock.specs.Desks.{DeskView}
 use Rattle.crawl_job.specs.declared.hop.Hop.TheVariants as hops
 use Rattle.crawl_job.specs.declared.hop.Refusal.TheVariants as refusals

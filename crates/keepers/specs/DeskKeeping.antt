@@ -8,7 +8,7 @@ use Rattle.gate_core.specs.declared.refusal.BeginRefusal.{BeginRefusal}
 use Rattle.gate_core.specs.declared.refusal.NoMemory.{NoMemory}
 use Rattle.gate_core.specs.declared.state.Standing.{Standing}
 use Rattle.gate_core.specs.declared.state.State.{State}
-use Rattle.gate_lock.specs.Bags.{BagView, Clears, GainsPermit, HoldsSame, IsCleared}
+use Rattle.permit_bag.specs.Bags.{BagView, Clears, GainsPermit, HoldsSame, IsCleared}
 use Rattle.gate_lock.specs.Desks.{Condenses, DeskView, KeepsOut, Pass, receipt_of}
 use Rattle.gate_marks.specs.Marks.{Receipt}
 use Rattle.gate_lock.specs.Steps.{DeskAsks, DeskReads, DeskSeals, Somewhere}

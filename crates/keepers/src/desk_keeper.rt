@@ -1,7 +1,7 @@
 //! `DeskKeeper`: a desk of a gate, a bag of what the session has out, and a fetcher.
 //! RFC 9309, sections 2.2 to 2.4.
 ghost use Rattle.std.specs.Prelude.{◌≡◌, [], IfOk, Some};
-ghost use Rattle.gate_lock.specs.Bags.{held_in};
+ghost use Rattle.permit_bag.specs.Bags.{held_in};
 ghost use Rattle.gate_lock.specs.Desks.{IsNew, out_of};
 ghost use Rattle.keepers.specs.Bounding.{TellsRefused, are_all};
 ghost use Rattle.page_worker.specs.World.{world_of};
@@ -18,9 +18,10 @@ use crawl_job::{Hop, Job, Outcome, Refusal};
 use fetchers::Fetcher;
 use gate_core::{AskRefusal, BeginRefusal, Denial, NoMemory, Standing, State};
 use gate_history::{Reason, Segment};
-use gate_lock::{Bag, Desk, DesksFull, Gate, GateLock, Receipts};
+use gate_lock::{Desk, DesksFull, Gate, GateLock, Receipts};
 use page_worker::{Clock, refresh, work};
 use path_normal::{Authority, PageUrl, Schemes};
+use permit_bag::Bag;
 use permit_book::{NotOut, PermitNo};
 use robots_text::Token;
 use std::alloc::Global;
@@ -206,7 +207,7 @@ impl<'a, 'g, G: Gate, F: Fetcher, R: Wait> DeskKeeper<'a, 'g, G, F, R> {
 
 impl<'a, 'g, G: Gate, F: Fetcher, R: Wait> Keeper for DeskKeeper<'a, 'g, G, F, R> {
     ghost use Rattle.std.specs.Prelude.{◌≡◌, true};
-    ghost use Rattle.gate_lock.specs.Bags.{BagFinishes, BagReturns, BagStarts, IsUrlIn};
+    ghost use Rattle.permit_bag.specs.Bags.{BagFinishes, BagReturns, BagStarts, IsUrlIn};
     ghost use Rattle.page_worker.specs.World.{world_of};
     ghost use Rattle.gate_lock.specs.Desks.{out_of};
     ghost use Rattle.keepers.specs.Bounding.{Bounded, RefusesAsk, RefusesFetch, RefusesRefresh, has_enough};

@@ -5,8 +5,8 @@ use Rattle.client_connections.specs.Accepts.{max_connections}
 use Rattle.client_connections.specs.declared.connections.Connections.{Connections}
 use Rattle.client_connections.specs.declared.connections.Connections.TheVariants.{AtMost, Endless}
 use Rattle.gate_marks.specs.Marks.{Receipt}
-use Rattle.gate_lock.specs.Settling.{IsWholeUnlessSealed, SettlesSome}
-use Rattle.gate_lock.specs.declared.settlement.Settled.{Settled}
+use Rattle.gate_settlement.specs.Settling.{IsWholeUnlessSealed, SettlesSome}
+use Rattle.gate_settlement.specs.declared.settlement.Settled.{Settled}
 use Rattle.job_line.specs.Limits.{max_workers}
 
 -- a number for each connection, if possible; an endless server has one for each worker

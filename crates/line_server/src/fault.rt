@@ -1,6 +1,7 @@
 //! Why a server does not end as it should.
 use counted_io::DeviceFault;
-use gate_lock::{DesksFull, SettleFault};
+use gate_lock::DesksFull;
+use gate_settlement::SettleFault;
 use keepers::NoKeeper;
 use std::alloc::AllocError;
 

@@ -6,10 +6,8 @@ ghost use Rattle.gate_lock.specs.Desks.{HasOut, KeepsOut, out_of};
 use super::gates::PAGE;
 use authority_cache::{LIFE, TimedAnswer};
 use gate_core::{AskRefusal, BeginRefusal};
-use gate_lock::{
-    Desk, DeskAsk, DesksFull, Gate, GateLock, Permit, Receipts, RobotsTurn, SettleFault, Settled,
-    settle,
-};
+use gate_lock::{Desk, DeskAsk, DesksFull, Gate, GateLock, Permit, Receipts, RobotsTurn};
+use gate_settlement::{SettleFault, Settled, settle};
 use path_normal::{Authority, PageUrl};
 use robots_text::Token;
 use robots_verdict::{Answer, Opening};

@@ -7,10 +7,8 @@ use super::desk_calls::{CallForm, bring, give_back};
 use authority_cache::{LIFE, TurnNo};
 use gate_core::{Book, Config, Limits, NoMemory};
 use gate_history::{Entry, FetchText};
-use gate_lock::{
-    Gate, GateLock, Receipts, SettleFault, Settled, Visit, marks_fit, receipts_fit, settle,
-    with_gate,
-};
+use gate_lock::{Gate, GateLock, Receipts, marks_fit};
+use gate_settlement::{SettleFault, Settled, Visit, receipts_fit, settle, with_gate};
 use path_normal::{Authority, PageUrl};
 use permit_book::PermitNo;
 use robots_text::Token;

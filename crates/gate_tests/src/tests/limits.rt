@@ -1,7 +1,8 @@
 //! A gate's limit of desks.
 
 use super::gates::book;
-use gate_lock::{Gate, GateLock, MAX_DESKS, Visit, with_gate};
+use gate_lock::{Gate, GateLock, MAX_DESKS};
+use gate_settlement::{Visit, with_gate};
 use std::alloc::Global;
 use std::hash::RandomState;
 use std::sync::Wait;

@@ -4,7 +4,8 @@
 use crawl_workers::{Clock, Deadline, Failure, Fetcher, Job, PageLeave, RobotsLeave, work};
 use gate_core::Limits;
 use gate_history::Entry;
-use gate_lock::{Gate, GateLock, Mark, Visit, with_gate};
+use gate_lock::{Gate, GateLock, Mark};
+use gate_settlement::{Visit, with_gate};
 use http_wire::{HttpReply, WireFault};
 use path_normal::{PageUrl, Schemes};
 use robots_text::Token;

@@ -5,7 +5,8 @@ ghost use Rattle.gate_lock.specs.Desks.{KeepsOut};
 
 use crawl_workers::{ShiftFault, run_shift};
 use gate_core::{Book, Limits};
-use gate_lock::{Blanks, Desk, Gate, GateLock, SettleFault};
+use gate_lock::{Blanks, Desk, Gate, GateLock};
+use gate_settlement::SettleFault;
 use scripted_sites::{FixedClock, ScriptedSites, new_book};
 use std::alloc::Global;
 use std::marker::Brand;

@@ -2,7 +2,7 @@
 use Rattle.std.proofs.Common.{◌≡◌, ◌∙◌, ℕ, ◌<◌, Result, Err, subst, sym, rules}
 use Rattle.std.proofs.lemmas.Bool.{false≢true}
 use Rattle.gate_core.specs.declared.refusal.AskRefusal.{AskRefusal}
-use Rattle.gate_lock.specs.Bags.{HoldsSame}
+use Rattle.permit_bag.specs.Bags.{HoldsSame}
 use Rattle.keepers.specs.DeskKeeping.{KeeperAsks}
 use Rattle.keepers.proofs.Refusing.{refused, unrefused}
 use Rattle.keepers.proofs.desk_keeper.DeskKeeper.ask_desk.Goals as goal
