@@ -31,18 +31,22 @@ fn is_told_of_read(rt: &HostRuntime, octets: usize) -> Result<bool, Fail> {
     let mut input = reader_of(rt.alloc(), INPUT, 1, Some(octets as u64))?;
     let mut output = new_writer(rt.alloc());
     let ended = session(rt, &mut input, &mut output)?;
-    let lines = lines_of(&INPUT[..octets]);
+    let lines = lines_of(INPUT, octets);
     Ok(ended == (Err(SessionFault::Read), lines) && has_lines(output.bytes(), lines))
 }
 
 // Whether these are so many replies.
 fn has_lines(written: &[u8], lines: usize) -> bool {
     let is_whole = written.is_empty() || written.ends_with(b"\n");
-    is_whole && REPLIES.starts_with(written) && lines_of(written) == lines
+    is_whole && REPLIES.starts_with(written) && lines_of(written, written.len()) == lines
 }
 
-fn lines_of(octets: &[u8]) -> usize {
-    octets.iter().filter(|octet| **octet == b'\n').count()
+// How many lines end within so many octets of a text.
+fn lines_of(text: &[u8], octets: usize) -> usize {
+    text.iter()
+        .take(octets)
+        .filter(|octet| **octet == b'\n')
+        .count()
 }
 
 // A session over a new book: its end, and the entries of the history.
@@ -68,5 +72,6 @@ fn is_told_of_write(rt: &HostRuntime, call: usize) -> Result<bool, Fail> {
     let mut input = reader_of(rt.alloc(), INPUT, 65_536, None)?;
     let mut output = FailAt::new(Vec::new(rt.alloc()), 1, Some(call as u64));
     let ended = session(rt, &mut input, &mut output)?;
-    Ok(ended == (Err(SessionFault::Write), 4) && output.bytes() == &REPLIES[..call])
+    let is_front = REPLIES.starts_with(output.bytes()) && output.bytes().len() == call;
+    Ok(is_front && ended == (Err(SessionFault::Write), 4))
 }

@@ -28,14 +28,17 @@ fn gives_twins(answer: &mut Answer) -> bool {
         return false;
     }
     let twin = answer.twin();
-    let is_first = answer.spares() == 1 && twin.spares() == 0 && are_equal(&twin, answer);
-    is_first && is_last(answer, &twin)
+    let is_first = is_first(answer, &twin);
+    let last = answer.twin();
+    is_first && is_last(answer, &twin, &last)
 }
 
-// Whether one more twin is the last.
-fn is_last(answer: &mut Answer, twin: &Answer) -> bool {
-    let last = answer.twin();
-    last == *twin && answer.spares() == 0 && last != Answer::Open(Opening::Unavailable)
+fn is_first(answer: &Answer, twin: &Answer) -> bool {
+    answer.spares() == 1 && twin.spares() == 0 && are_equal(twin, answer)
+}
+
+fn is_last(answer: &Answer, twin: &Answer, last: &Answer) -> bool {
+    last == twin && answer.spares() == 0 && *last != Answer::Open(Opening::Unavailable)
 }
 
 #[test]
