@@ -116,7 +116,8 @@ def shell_client_over_https(https):
         same(ran([*words, page.upper(), "sh", "-c", 'echo "$CRAWLGATE_URL"']), (f"{page}\n", "", 0))
         if not shutil.which("curl"):
             return "without curl"
-        curl = ["curl", "--silent", "--noproxy", "*", "--cacert", https.authority_file, "--write-out", "%{http_code}"]
+        curl = ["curl", "--globoff", "--silent", "--noproxy", "*", "--cacert", https.authority_file]
+        curl += ["--write-out", "%{http_code}"]
         got = ran([*words, https.sites.url("/docs"), *curl, "{}"])
         same(got, ("301", "", 0))
         denied = f"crawlgate.sh: NO https://{https.sites.authorities[0]} line 2\n"

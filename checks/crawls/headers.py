@@ -44,6 +44,8 @@ def refused(port):
         "no field": header(port, fields=b""),
         "no name": header(port, fields=field(PROTOCOL, b"localhost")),
         "an empty name": header(port, fields=field(AUTHORITY, b"")),
+        "NUL for a name": header(port, fields=field(AUTHORITY, b"\0")),
+        "a name that begins with NUL": header(port, fields=field(AUTHORITY, b"\0localhost")),
         "a field past the end": header(port, fields=struct.pack("!BH", AUTHORITY, 99) + b"localhost"),
         "another name": header(port, fields=field(AUTHORITY, b"other.example")),
         "a name that goes on": header(port, fields=field(AUTHORITY, b"localhost.other.example")),

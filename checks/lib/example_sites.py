@@ -138,10 +138,12 @@ def jobs_of(sites):
     return "".join(f"{it}\n" for it in jobs)
 
 
-def crawl(given, *words, program=None):
-    """Returns what many-machines/crawl writes, and its status."""
-    environment = {**os.environ, "CRAWLGATE": program or Server.program, "AT_ONCE": "3"}
+def crawl(given, *words, program=None, descriptors=None, **environment):
+    """Returns what many-machines/crawl writes, and its status. It has only so many descriptors, where that is told."""
+    environment = {**os.environ, "CRAWLGATE": program or Server.program, "AT_ONCE": "3", **environment}
     environment.pop("MACHINES", None)
     words = [f"{ROOT}/examples/many-machines/crawl", *words]
-    ran = subprocess.run(words, input=given.encode(), capture_output=True, timeout=2 * SECONDS, env=environment)
+    if descriptors:
+        words = ["sh", "-c", f'ulimit -n {descriptors} && exec "$@"', "sh", *words]
+    ran = subprocess.run(words, input=given.encode(), capture_output=True, timeout=8 * SECONDS, env=environment)
     return ran.stdout.decode(), ran.returncode

@@ -4,11 +4,12 @@ import re
 import select
 import socket
 import subprocess
+import threading
 from concurrent.futures import ThreadPoolExecutor
 
 from lib.cases import short
 from lib.program import BUILT, resident
-from lib.sites import HOST, reset
+from lib.sites import HOST, free_port, reset
 
 # how long a reply, or the program's end, may take where nothing else is said, in seconds
 SECONDS = 30
@@ -57,6 +58,36 @@ class Server:
 
     def resident(self):
         return resident(self.process.pid)
+
+
+class Restarted:
+    """A server that is killed, and started again later at the same place: a port, or the path of a socket."""
+
+    def __init__(self, *words, path=None):
+        self.words, self.place = words, path or free_port()
+        self.timer = None
+        self.start()
+
+    def __enter__(self):
+        return self
+
+    def __exit__(self, *_):
+        if self.timer:
+            self.timer.join(SECONDS)
+        self.kill()
+
+    def start(self):
+        is_path = isinstance(self.place, str)
+        self.server = Server(*self.words, **{"path" if is_path else "port": self.place})
+
+    def kill(self):
+        self.server.__exit__()
+
+    def restart(self, seconds=2):
+        """Kills it, and has it started again after some seconds."""
+        self.kill()
+        self.timer = threading.Timer(seconds, self.start)
+        self.timer.start()
 
 
 class Session:

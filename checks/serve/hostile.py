@@ -217,6 +217,21 @@ def browser_is_turned_away():
     same(replies, [b"ERR verb\n", b"ERR verb\n", b"ERR words\n"])
 
 
+def tls_is_turned_away():
+    """A browser that was given an https URL sends what a site has chosen in its first octets: they end the session."""
+    hello = b"\x16\x03\x01\x02\x00\x01\x00\x01\xfc\x03\x03" + bytes(32) + b"\x20\nSEAL\nURL http://a.example/\nQUIT\n"
+    with Server("--workers", "1") as server:
+        for octets in (hello, b"\x80\nSEAL\n", b"SEAL\t\nSEAL\n"):
+            with Session(server) as it:
+                it.send(octets)
+                same(it.rest(), b"ERR chars\n")
+        with Session(server) as it:
+            # a later line is answered as ever
+            same(it.say("URL http://a.example/"), "URL http://a.example/")
+            same(it.say("\x7f"), "ERR chars")
+            same(it.say("URL http://a.example/"), "URL http://a.example/")
+
+
 def client_with_bounds():
     """One client gets two permits, and makes two sites known; the next one as many."""
     sites = [open_site() for _ in range(3)]
@@ -367,6 +382,6 @@ def refreshed_again_and_again():
 
 CASES = [
     numbers_of_others, killed_clients, unread_behind_the_end, nobody_holds_a_worker, gone_during_a_fetch, fetches_for_nobody,
-    lines_sent_ahead, browser_is_turned_away, client_with_bounds, patience_with_good_clients, few_descriptors, full_history,
+    lines_sent_ahead, browser_is_turned_away, tls_is_turned_away, client_with_bounds, patience_with_good_clients, few_descriptors, full_history,
     closed_streams, memory, refreshed_again_and_again,
 ]

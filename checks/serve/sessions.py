@@ -5,7 +5,7 @@ import time
 
 from lib.cases import same
 from lib.server import Server, Session, side_by_side
-from lib.sites import HOST, OCTETS, open_site, response, site_with_rules
+from lib.sites import HOST, OCTETS, RULES, Site, open_site, response, site_with_rules
 
 
 def quits():
@@ -216,6 +216,36 @@ def look_inside():
             assert told.endswith(" connections 2 clients 2"), told
 
 
+class Heads(Site):
+    """A site that keeps the heads of its requests."""
+
+    def __init__(self, pages):
+        self.heads = []
+        super().__init__(pages)
+
+    def answer(self, peer, head, target):
+        self.heads.append(head)
+        super().answer(peer, head, target)
+
+
+def robots_file_elsewhere():
+    """A robots.txt that redirects to a page which its own site denies is read there, as crawlgate, and no start tells of it;
+    the text is in WHY and in the history."""
+    other = Heads({"/robots.txt": response(200, RULES), "/private/letters": response(200, b"the letters")})
+    site = open_site({"/robots.txt": response(302, b"", f"Location: {other.url('/private/letters')}")})
+    with Server() as server, Session(server) as it:
+        it.send(f"FETCH foobot {other.url('/private/letters')}\n".encode())
+        same(it.lines(3), [f"HOP 1 NO {other.authority} line 2", "BODY 0", ""])
+        same(it.say(f"REFRESH {site.authority}"), f"TAKEN {site.authority} rules")
+        same(it.say(f"WHY {site.authority}").split(" ")[-3:], ["R", "86400", "the%20letters"])
+        words = it.say("INFO").split(" ")
+        same(words[words.index("starts") + 1], "0")
+        it.send(b"SEAL\nQUIT\n")
+        assert b" R 86400 the%20letters\n" in it.rest(), "the text is not in the history"
+    same(other.asked, ["/robots.txt", "/private/letters"])
+    assert b"\r\nuser-agent: crawlgate\r\n" in other.heads[1].lower(), other.heads
+
+
 def thousand_lines_at_once():
     with Server() as server, Session(server) as it:
         same(it.say_all(["STATE a.example"] * 1000), ["STATE a.example unknown idle"] * 1000)
@@ -267,5 +297,6 @@ def ends_of_lines():
 
 CASES = [
     quits, connections_are_counted, without_end, two_sessions, segments_are_what_was_served, fetches, faults_of_lines, site_is_down,
-    one_robots_fetch_at_a_time, answers_are_waited_for, urls_as_written, look_inside, thousand_lines_at_once, million_lines, line_by_octets, ends_of_lines,
+    one_robots_fetch_at_a_time, answers_are_waited_for, robots_file_elsewhere, urls_as_written, look_inside, thousand_lines_at_once,
+    million_lines, line_by_octets, ends_of_lines,
 ]

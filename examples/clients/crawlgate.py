@@ -18,6 +18,7 @@ As a program, `crawlgate.py PORT TOKEN URL` has the gate fetch a page, and write
 In place of a port it takes the path of a socket, which has a `/` in it (`crawlgate serve --socket PATH`).
 """
 import contextlib
+import itertools
 import socket
 import sys
 import time
@@ -35,7 +36,8 @@ class Denied(Exception):
 
 
 class Refused(Exception):
-    """The gate took no such line, or could not do it now: `word` is as 'url bad', 'permits', 'busy' or 'notout'."""
+    """The gate took no such line, or could not do it now: `word` is as 'url bad', 'permits', 'busy' or 'notout'. Or it says
+    that urllib would fetch another page than the permit's."""
 
     def __init__(self, word):
         super().__init__(word)
@@ -77,8 +79,11 @@ class Permit:
 
     def open(self, timeout):
         """Fetches the page, and returns the response of whatever status, as urllib.request has it. What a redirect names
-        wants a permit of its own."""
+        wants a permit of its own. Where urllib would ask for another page it is Refused, and nothing is fetched."""
         request = urllib.request.Request(self.url, headers={"User-Agent": self.token})
+        # (urllib makes the host and the target from the URL anew)
+        if f"{request.type}://{request.host}{request.selector}" != self.url:
+            raise Refused(f"urllib can't fetch exactly {self.url}")
         return _OPENER.open(request, timeout=timeout)
 
 
@@ -105,52 +110,60 @@ def _connected(path, timeout):
 TIMEOUT = 3_900
 # how long a site stays closed before its robots.txt is fetched again for a permit, in seconds
 RETRY_CLOSED = 600
+# how long a server that is away is waited for, and the pause between two tries to connect, in seconds; and how it is seen
+AWAY, PAUSE, GONE = 60, 0.2, (ConnectionError, FileNotFoundError)
 
 
 class Gate:
-    """A session of a line server. It raises an OSError where the connection ends or nothing comes for `timeout` seconds.
+    """A session of a line server. It raises an OSError where no server listens, or nothing comes for `timeout` seconds.
 
-    Where the server has ended a session that has nothing out, as one that was silent for long, the next line connects
-    anew. A site that is closed, as one whose robots.txt could not be fetched, is tried again for a permit once
-    `retry_closed` seconds have passed since this Gate fetched its robots.txt; with None never."""
+    Where the connection has ended, as that of a session that was silent for long, or of a server that is started again, the
+    next line connects anew. It waits for a server that is away, for `away` seconds since the connection was lost; then each
+    line tries to connect once. What was out has gone back: a line about its number is a ConnectionError, and `permit` asks
+    again. So is a `seal` whose connection ends, by which a segment may be lost.
 
-    def __init__(self, host, port, timeout=TIMEOUT, retry_closed=RETRY_CLOSED):
-        self._begin(lambda: _connected_to(host, port, timeout), retry_closed)
+    A site that is closed, as one whose robots.txt could not be fetched, is tried again for a permit once `retry_closed`
+    seconds have passed since this Gate fetched its robots.txt; with None never."""
+
+    def __init__(self, host, port, timeout=TIMEOUT, retry_closed=RETRY_CLOSED, away=AWAY):
+        self._begin(lambda: _connected_to(host, port, timeout), retry_closed, away)
 
     @classmethod
-    def at(cls, place, timeout=TIMEOUT, retry_closed=RETRY_CLOSED):
+    def at(cls, place, timeout=TIMEOUT, retry_closed=RETRY_CLOSED, away=AWAY):
         """A session at a port of this machine, or at the socket of a path, which has a `/` in it."""
         if "/" not in place:
-            return cls("127.0.0.1", int(place), timeout, retry_closed)
+            return cls("127.0.0.1", int(place), timeout, retry_closed, away)
         gate = cls.__new__(cls)
-        gate._begin(lambda: _connected(place, timeout), retry_closed)
+        gate._begin(lambda: _connected(place, timeout), retry_closed, away)
         return gate
 
-    def _begin(self, connect, retry_closed):
-        self._connect, self._retry_closed = connect, retry_closed
-        # the numbers of permits that are out, and when robots.txt files were fetched
-        self._out, self._refreshed = set(), {}
-        self._take(connect())
-
-    def _take(self, peer):
-        self._peer = peer
-        self._replies = peer.makefile("rb")
+    def _begin(self, connect, retry_closed, away):
+        self._connect, self._retry_closed, self._away = connect, retry_closed, away
+        # the numbers of permits that are out, those that went back with a connection, and when robots.txt files were fetched
+        self._out, self._lost, self._refreshed = set(), set(), {}
+        # how many connections there were, since when no reply has come, and whether this Gate is at its end
+        self._connections, self._away_since, self._is_closed, self._peer, self._replies = 0, None, False, None, None
+        self._come_back()
 
     def __enter__(self):
         return self
 
     def __exit__(self, kind, error, trace):
         """Ends the session, by which all its permits are given back."""
-        try:
-            if kind is None and not self._replies.closed:
+        # (where the connection ends the session has ended, too)
+        with contextlib.closing(self), contextlib.suppress(OSError):
+            if kind is None:
                 self.quit()
-        finally:
-            self.close()
 
     def close(self):
         """Closes the connection. The server gives the session's permits back once it sees that."""
-        self._replies.close()
-        self._peer.close()
+        self._is_closed = True
+        self._drop()
+
+    def _drop(self):
+        for it in filter(None, (self._replies, self._peer)):
+            it.close()
+        self._peer = self._replies = None
 
     def written(self, url):
         """Returns a URL as the gate writes it: the one that it decides, and that is to be fetched. It is Refused as
@@ -161,6 +174,8 @@ class Gate:
         """Asks for a permit to fetch a page, and returns its number."""
         number = int(self._say("PERMIT", "ASK", token, url))
         self._out.add(number)
+        # (a server that keeps no journal begins anew with its numbers)
+        self._lost.discard(number)
         return number
 
     def start(self, number, token, url):
@@ -196,17 +211,19 @@ class Gate:
         return word
 
     def fetch(self, token, url):
-        """Has the gate fetch a page, the robots.txt before it where none is in force, and the pages to which it leads."""
+        """Has the gate fetch a page, the robots.txt before it where none is in force, and the pages to which it leads. Where
+        the connection ends meanwhile, the page is fetched again."""
+        return self._patiently(self._fetched, token, url)
+
+    def _fetched(self, token, url):
         hops = []
         reply = self._send("FETCH", token, url)
         while reply.startswith("HOP "):
             hops.append(reply.split(" ", 2)[2])
             reply = self._reply()
         length = int(self._rest_of("BODY", reply))
-        octets = self._replies.read(length + 1)
-        if len(octets) <= length:
-            raise ConnectionError("the connection ended in a body")
-        return Fetched(hops, octets[:-1])
+        # (a line end stands behind the body)
+        return Fetched(hops, self._octets(length + 1)[:-1])
 
     def info(self):
         """Returns how much there is in the gate, of all sessions together, by name: 'entries', 'ever', 'starts', 'permits',
@@ -223,31 +240,36 @@ class Gate:
     def seal(self):
         """Returns the text of the history since the last seal, b"" where nothing was entered. Nobody else keeps it."""
         count = int(self._say("SEALED", "SEAL"))
-        lines = [self._replies.readline() for _ in range(count)]
-        if not all(it.endswith(b"\n") for it in lines):
-            raise ConnectionError("the connection ended in a segment")
-        return b"".join(lines)
+        return b"".join(self._line() for _ in range(count))
 
     def quit(self):
         """Ends the session. When it returns, the session's permits have gone back."""
-        self._say("BYE", "QUIT")
+        if self._peer:
+            self._say("BYE", "QUIT")
         self.close()
 
     @contextlib.contextmanager
     def permit(self, token, url):
         """Starts the fetch of a page, which the caller makes itself, and ends it on the way out. It gives a Permit. The
         robots.txt is fetched first, where none is in force."""
+        permit, number = self._patiently(self._started, token, url)
+        connection = self._connections
+        try:
+            yield permit
+        finally:
+            # (where the connection has ended the permit went back, and its number may be granted again)
+            if self._peer and connection == self._connections:
+                with contextlib.suppress(OSError):
+                    self.done(number)
+
+    def _started(self, token, url):
         url = self.written(url)
         number = self._ask_informed(token, url)
         try:
-            reason = self.start(number, token, url)
+            return Permit(token, url, self.start(number, token, url)), number
         except Refused:
             self.back(number)
             raise
-        try:
-            yield Permit(token, url, reason)
-        finally:
-            self.done(number)
 
     def _ask_informed(self, token, url):
         try:
@@ -262,12 +284,9 @@ class Gate:
         """Whether the site is closed, and its robots.txt was not fetched by this Gate of late."""
         if denied.cause != "closed" or self._retry_closed is None:
             return False
-        refreshed = self._refreshed.get(denied.authority)
-        if refreshed is None:
-            # (its answer may be of another session; it counts as of now)
-            self._refreshed[denied.authority] = time.monotonic()
-            return False
-        return time.monotonic() - refreshed >= self._retry_closed
+        # (an answer that another session has had fetched counts as of now)
+        now = time.monotonic()
+        return now - self._refreshed.setdefault(denied.authority, now) >= self._retry_closed
 
     def _inform(self, authority):
         """Has a robots.txt fetched, or waits until another session has done so."""
@@ -289,26 +308,70 @@ class Gate:
             if not all("!" <= it <= "~" for it in str(word)):
                 raise ValueError(f"no word of a line: {word!r}")
         line = " ".join(map(str, words)).encode() + b"\n"
-        try:
-            return self._exchange(line)
-        except ConnectionError:
-            # what was out has gone back; and a segment that was on its way is lost
-            out, self._out = self._out, set()
-            if out or words[0] in ("SEAL", "QUIT") or self._replies.closed:
-                raise
-        self.close()
-        self._take(self._connect())
+        is_of_permit = words[0] in ("START", "BACK", "DONE")
+        if is_of_permit and words[1] in self._lost:
+            raise ConnectionError(f"permit {words[1]} went back with the connection that it was granted on")
+        if not is_of_permit and words[0] not in ("SEAL", "QUIT"):
+            return self._patiently(self._exchange, line)
+        # (of these it can't be told what the server did, where the reply is lost)
+        self._patiently(self._come_back)
         return self._exchange(line)
 
+    def _patiently(self, call, *words):
+        """Makes a call, and makes it again where the connection ended, as long as a server that is away is waited for."""
+        for pause in itertools.chain([0], itertools.repeat(PAUSE)):
+            try:
+                return call(*words)
+            except GONE:
+                since = self._away_since
+                if since is None or self._is_closed or time.monotonic() - since >= self._away:
+                    raise
+            time.sleep(pause)
+
+    def _come_back(self):
+        """Connects, where the connection was lost."""
+        if self._is_closed:
+            raise ConnectionError("this Gate is closed")
+        if not self._peer:
+            self._peer = self._connect()
+            self._replies = self._peer.makefile("rb")
+            self._connections += 1
+
     def _exchange(self, line):
-        self._peer.sendall(line)
-        return self._reply()
+        self._come_back()
+        with self._at_stake():
+            self._peer.sendall(line)
+        reply = self._reply()
+        self._away_since = None
+        return reply
+
+    @contextlib.contextmanager
+    def _at_stake(self):
+        """Whatever fails meanwhile, the connection is lost, and the permits go back: it may be in the middle of a reply."""
+        try:
+            yield
+        except BaseException:
+            self._drop()
+            self._lost, self._out = self._lost | self._out, set()
+            self._away_since = self._away_since or time.monotonic()
+            raise
 
     def _reply(self):
-        line = self._replies.readline()
-        if not line.endswith(b"\n"):
-            raise ConnectionError("the connection ended without a reply")
-        return line[:-1].decode()
+        return self._line()[:-1].decode()
+
+    def _line(self):
+        with self._at_stake():
+            line = self._replies.readline()
+            if not line.endswith(b"\n"):
+                raise ConnectionError("the connection ended in a reply")
+            return line
+
+    def _octets(self, count):
+        with self._at_stake():
+            octets = self._replies.read(count)
+            if len(octets) < count:
+                raise ConnectionError("the connection ended in a body")
+            return octets
 
     def _rest_of(self, wanted, reply):
         """Returns what stands behind the first word of a reply, which must be this one."""

@@ -10,11 +10,15 @@
 # robots.txt fetched where none is in force, starts the fetch, runs the command, which fetches the page, and ends the
 # fetch:
 #
-#   crawlgate.sh 8300 run foobot http://a.example/ curl --silent --user-agent foobot '{}'
+#   crawlgate.sh 8300 run foobot http://a.example/ curl --globoff --silent --user-agent foobot '{}'
 #
 # Each word of the command that is {}, or the URL as it was given, becomes the URL as the gate writes it, which is what it
 # has decided; CRAWLGATE_URL has it too. The command fetches that and nothing else: it follows no redirect (curl does
 # so only with --location), and sends the token as User-Agent.
+#
+# curl takes [..] and {..} of a URL for patterns, and fetches other pages than the one that was decided, unless it has
+# --globoff (-g). Without it a URL that has one of these characters is refused before a permit is asked for. A script of yours
+# that runs curl needs --globoff too: what is in a script is not looked at.
 #
 # `seal` writes the history since the last seal, which nobody else keeps; nothing, where there is none:
 #
@@ -79,11 +83,48 @@ fetch() {
     [ "${hop%% *}" = PAGE ]
 }
 
+# Returns whether curl with these options takes [..] and {..} of a URL for patterns. It says yes where it can't tell: an option
+# behind most long ones may be that one's value.
+reads_patterns() {
+    local word flags='[0-9aBfgGiIjJklLMnNOpqRsSvZ#]' valued='[AbcCdDeEFhHKmoPQrtTuUwxXyYz]' is_value='' is_off=''
+    for word; do
+        # (behind --next the options begin anew)
+        if [[ $word = --no-g* || $word = --nex* || $word =~ ^-${flags}*: ]]; then
+            return 0
+        fi
+        if [ "$is_value" ]; then
+            is_value=
+            continue
+        fi
+        [[ $word != --globoff && ! $word =~ ^-${flags}*g ]] || is_off=yes
+        [[ ! $word =~ ^-${flags}*${valued}$ ]] || is_value=yes
+        case $word in
+        --globoff | --silent | --show-error | --fail | --fail-with-body | --compressed | --include | --verbose | --ipv[46]) ;;
+        --*) is_value=yes ;;
+        esac
+    done
+    [ ! "$is_off" ]
+}
+
+# Refuses a URL that has patterns, where the command is curl, or a program that runs it as `timeout 20 curl` does.
+refuse_patterns() {
+    while [ $# -gt 0 ]; do
+        case $1 in
+        curl | */curl)
+            shift
+            ! reads_patterns "$@" || fail "curl reads patterns in $written: put --globoff right behind curl"
+            ;;
+        *) shift ;;
+        esac
+    done
+}
+
 # The command fetches the page.
 run() {
     local status word written command=()
     expect URL URL "$url"
     written=${reply#URL }
+    case $written in *[][{}]*) refuse_patterns "$@" ;; esac
     for word; do
         case $word in '{}' | "$url") word=$written ;; esac
         command+=("$word")

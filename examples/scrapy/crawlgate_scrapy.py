@@ -7,25 +7,46 @@ a connection that failed is.
 """
 import contextlib
 import itertools
+import logging
 import os
 import sys
 import threading
 
 from scrapy.core.downloader.handlers.http11 import HTTP11DownloadHandler
 from scrapy.exceptions import IgnoreRequest, NotConfigured
+from twisted.internet.defer import maybeDeferred
 from twisted.internet.threads import deferToThread
+from twisted.web.client import URI, RequestNotSent, RequestTransmissionFailed, ResponseNeverReceived
 
 sys.path.insert(0, f"{os.path.dirname(os.path.realpath(__file__))}/../clients")
-from crawlgate import Denied, Gate, Refused
+from crawlgate import AWAY, Denied, Gate, Refused
 
+LOG = logging.getLogger(__name__)
 NO_ROOM = {"busy", "permits", "authorities", "log", "memory"}
+
+
+def sent(url):
+    """Returns the URL of the page that Twisted asks for: it makes the host and the target from the URL anew, by which a `;`
+    with nothing behind it is lost."""
+    uri = URI.fromBytes(url.encode("ascii"))
+    return b"".join([uri.scheme, b"://", uri.netloc, uri.originForm]).decode("ascii")
+
+
+def exactly(request, url):
+    """Returns the request of this URL. Scrapy and Twisted write some URLs in another way: what would be another page is
+    ignored."""
+    with contextlib.suppress(ValueError):
+        written = request.replace(url=url)
+        if written.url == url and sent(url) == url:
+            return written
+    raise IgnoreRequest(f"crawlgate: Scrapy can't fetch exactly {url}")
 
 
 class _Session:
     """A session, for one thread at a time."""
 
-    def __init__(self, place):
-        self.gate, self.lock = Gate.at(place), threading.Lock()
+    def __init__(self, place, away):
+        self.gate, self.lock = Gate.at(place, away=away), threading.Lock()
 
     def begin(self, token, url):
         """Starts a fetch, and returns its permit, and what ends it."""
@@ -45,11 +66,16 @@ class GateHandler(HTTP11DownloadHandler):
 
     def __init__(self, settings, crawler=None):
         super().__init__(settings, crawler)
+        # (Twisted would send a request again by itself where a connection that it has kept ends, without a start)
+        self._pool.retryAutomatically = False
+        # for a second try: a handler that keeps no connection open
+        self._anew = HTTP11DownloadHandler(settings, crawler)
+        self._anew._pool.persistent = False
         self._token, place = settings.get("CRAWLGATE_TOKEN"), settings.get("CRAWLGATE_PLACE")
         if not self._token or not place:
             raise NotConfigured("CRAWLGATE_TOKEN and CRAWLGATE_PLACE")
-        count = settings.getint("CRAWLGATE_SESSIONS", 4)
-        self._sessions = [_Session(place) for _ in range(count)]
+        count, away = settings.getint("CRAWLGATE_SESSIONS", 4), settings.getint("CRAWLGATE_AWAY", AWAY)
+        self._sessions = [_Session(place, away) for _ in range(count)]
         self._turns = itertools.cycle(self._sessions)
 
     def close(self):
@@ -58,9 +84,21 @@ class GateHandler(HTTP11DownloadHandler):
         return super().close()
 
     def download_request(self, request, spider):
+        fetched = self._download(super().download_request, request, spider)
+        return fetched.addErrback(self._again, request, spider)
+
+    def _again(self, failure, request, spider):
+        """A connection that was kept may end before the request on it is answered: then the page is fetched on a new one, under
+        a permit of its own."""
+        failure.trap(RequestNotSent, RequestTransmissionFailed, ResponseNeverReceived)
+        if request.method not in ("GET", "HEAD"):
+            return failure
+        return self._download(self._anew.download_request, request, spider)
+
+    def _download(self, send, request, spider):
         session = next(self._turns)
         begun = deferToThread(self._begin, session, request.url)
-        return begun.addCallback(self._fetch, session, request, spider)
+        return begun.addCallback(self._fetch, session, send, request, spider)
 
     def _begin(self, session, url):
         try:
@@ -71,19 +109,20 @@ class GateHandler(HTTP11DownloadHandler):
             kind = OSError if refused.word in NO_ROOM else IgnoreRequest
             raise kind(f"crawlgate: {refused}: {url}") from refused
 
-    def _fetch(self, begun, session, request, spider):
+    def _fetch(self, begun, session, send, request, spider):
         permit, started = begun
-        written = request.replace(url=permit.url)
-        written.headers["User-Agent"] = permit.token
-        if written.url == permit.url:
-            fetched = super().download_request(written, spider)
-        else:
-            # (Scrapy writes some octets of a URL in another way, by which this would be another page)
-            fetched = deferToThread(self._refuse, permit.url)
+        fetched = maybeDeferred(self._send, permit, send, request, spider)
         return fetched.addBoth(self._end, session, started)
 
-    def _refuse(self, url):
-        raise IgnoreRequest(f"crawlgate: Scrapy can't fetch exactly {url}")
+    def _send(self, permit, send, request, spider):
+        written = exactly(request, permit.url)
+        written.headers["User-Agent"] = permit.token
+        # (under the name of another host it would be that one's page)
+        written.headers.pop("Host", None)
+        return send(written, spider)
 
     def _end(self, result, session, started):
-        return deferToThread(session.end, started).addCallback(lambda _: result)
+        ended = deferToThread(session.end, started)
+        # (what came of the page stays, whatever the gate says to its end)
+        ended.addErrback(lambda fault: LOG.warning("crawlgate: at the end of a fetch: %s", fault.value))
+        return ended.addCallback(lambda _: result)

@@ -4,6 +4,8 @@ CRAWLGATE_TOKEN = "foobot"
 CRAWLGATE_PLACE = "4000"
 # how many sessions it has with the server, which are as many of its --workers
 CRAWLGATE_SESSIONS = 4
+# how long a server that is away is waited for, in seconds
+CRAWLGATE_AWAY = 60
 
 USER_AGENT = CRAWLGATE_TOKEN
 # each page of http and https goes through the gate, and nothing else is fetched

@@ -1,7 +1,9 @@
--- First lines that end a session: HTTP request lines (RFC 9112, section 3: method, target and version).
+-- First lines that end a session: HTTP request lines (RFC 9112, section 3: method, target and version), and lines
+-- that are no text, as TLS begins with (RFC 8446, section 5.1).
 -- Cited by `serve_from`.
-use Rattle.std.specs.Prelude.{ℕ, zero, suc, ◌-◌, Bool, true, false, ◌||◌, ◌&&◌, List, codes, drop, length}
+use Rattle.std.specs.Prelude.{ℕ, zero, suc, ◌-◌, Bool, true, false, not, ◌||◌, ◌&&◌, List, codes, drop, length}
 use Rattle.std.specs.Str.{bytes_eq}
+use Rattle.command_lines.specs.CallOf.{has_line_octets}
 use Rattle.command_server.specs.declared.first_line.FirstLine.{FirstLine}
 use Rattle.command_server.specs.declared.first_line.FirstLine.TheVariants.{Any, NoRequest}
 
@@ -29,4 +31,4 @@ is_first (suc number) = false
 -- whether the session ends after this reading's line, whatever its reply
 abbrev pub is_turned_away : FirstLine → (number : ℕ) → List ℕ → Bool
 is_turned_away Any number line = false
-is_turned_away NoRequest number line = is_first number && is_request_line line
+is_turned_away NoRequest number line = is_first number && (is_request_line line || not (has_line_octets line))

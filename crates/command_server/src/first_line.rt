@@ -1,6 +1,7 @@
 //! Which first line a session takes.
 //! Used by all that serve clients over a connection. RFC 9112, section 3, has request lines of HTTP.
 ghost use Rattle.std.specs.Prelude.{◌≡◌};
+ghost use Rattle.command_lines.specs.CallOf.{has_line_octets};
 ghost use Rattle.command_server.specs.FirstLines.{is_request_line, is_turned_away};
 
 // The octets of ` HTTP/1.1`.
@@ -11,8 +12,9 @@ const VERSION_OCTETS: usize = 9;
 pub enum FirstLine {
     /// Any line.
     Any,
-    /// Any but a request line of HTTP/1.0 or HTTP/1.1, whose reply ends the session: a web page can make a
-    /// browser send such a line to a port of its own machine, followed by lines of the page.
+    /// Any but a request line of HTTP/1.0 or HTTP/1.1, and one with an octet that no command has, as TLS
+    /// begins with. The reply to such a line ends the session: a web page can make a browser send it to a port
+    /// of its own machine, followed by lines of the page.
     NoRequest,
 }
 
@@ -23,9 +25,16 @@ impl FirstLine {
     {
         match self {
             FirstLine::Any => false,
-            FirstLine::NoRequest => number == 0 && is_request_line(line),
+            FirstLine::NoRequest => number == 0 && (is_request_line(line) || !is_text(line)),
         }
     }
+}
+
+// Whether a line has only octets of command lines.
+fn is_text(line: &[u8]) -> bool
+    ensures { result ≡ has_line_octets line.now }
+{
+    line.iter().all(|octet| (32..=126).contains(octet))
 }
 
 // Whether a line ends like an HTTP/1.0 or HTTP/1.1 request line.

@@ -6,6 +6,7 @@ ghost use Rattle.gate_core.specs.Limits.{AreLimits};
 ghost use Rattle.journal_resume.specs.Resuming.{IsIdle};
 
 use counted_io::Counted;
+use gate_clock::{Beginning, SteadyClock};
 use gate_core::{Book, Limits};
 use gate_lock::{Gate, Receipts};
 use journal_files::{Folder, JournalFault, LastFile, SyncPolicy};
@@ -13,12 +14,13 @@ use journal_resume::{ResumeFault, Resumed, resume};
 use path_normal::{Authority, Schemes};
 use program_arguments::JournalOptions;
 use program_commands::{
-    Ending, Reasoned, new_book, tell_bad_folder, tell_bad_journal, tell_few_slots,
-    tell_full_journal, tell_short_journal, tell_torn_line, tell_unread_journal,
+    Ending, Reasoned, new_book, tell_bad_folder, tell_bad_journal, tell_clock_set_back,
+    tell_few_slots, tell_full_journal, tell_short_journal, tell_torn_line, tell_unread_journal,
 };
 use std::hash::RandomState;
-use std::io;
 use std::io::ErrorKind;
+use std::sync::Wait;
+use std::{io, time};
 
 /// The locked folder of a journal, with its name and sync policy.
 #[derive(Drop)]
@@ -92,6 +94,20 @@ fn begin_new(host: &HostRuntime, limits: Limits) -> Result<JournalStart, Ending>
         }),
         Err(ending) => Err(ending),
     }
+}
+
+/// The clock of a gate that begins with this book. Reports a wall clock that was set back since the book's
+/// last moment.
+pub(crate) fn clock_of<'a, R: Wait + time::Clock>(
+    rt: &'a R,
+    host: &HostRuntime,
+    book: &Book,
+) -> SteadyClock<'a, R> {
+    let (clock, beginning) = SteadyClock::new(rt, book.base().moment());
+    if let Beginning::SetBack(seconds) = beginning {
+        tell_clock_set_back(host, seconds);
+    }
+    clock
 }
 
 // Reads a journal's last file, and ends its text.

@@ -14,7 +14,7 @@ ghost use Rattle.job_line.specs.Limits.{IsCrew, max_jobs};
 ghost use Rattle.program_arguments.specs.Options.{AreForShift};
 
 use crate::fetching::new_fetcher;
-use crate::journal::{JournalStart, OpenJournal, Past, begin_with, open_journal};
+use crate::journal::{JournalStart, OpenJournal, Past, begin_with, clock_of, open_journal};
 use crate::recorded_shift::shift_recorded;
 use crate::serving::serve;
 use crate::tls_program::find_tls_program;
@@ -24,7 +24,7 @@ use crawl_shift::{
     BadJobLine, BadLines, ClosedSites, JobLines, JobLinesFault, NotShifted, Shift, StatusLine,
     read_job_lines, tell_bad_lines,
 };
-use crawl_workers::{Clock, Fetcher, SystemClock};
+use crawl_workers::{Clock, Fetcher};
 use gate_lock::{Blanks, Gate, GateLock};
 use program_arguments::{BadJobs, ShiftOptions, ShiftOutput};
 use program_commands::{
@@ -85,7 +85,7 @@ fn shift_watched<F: Fetcher + Sync, R: Threads + Wait + time::Clock + Sync>(
     requires options { AreForShift options.now }
     requires book { IsIdle begun.book }
 {
-    let clock = SystemClock::new(*host);
+    let clock = clock_of(rt, host, &begun.book);
     let mut errors = Counted::new(host.stderr());
     let sink = if is_watched(host) {
         Some(&mut errors)

@@ -5,10 +5,9 @@ ghost use Rattle.job_line.specs.Limits.{IsCrew};
 ghost use Rattle.program_arguments.specs.Options.{AreForServe};
 
 use crate::fetching::new_fetcher;
-use crate::journal::{JournalStart, OpenJournal, Past, begin_with, open_journal};
+use crate::journal::{JournalStart, OpenJournal, Past, begin_with, clock_of, open_journal};
 use crate::tls_program::find_tls_program;
 use client_connections::Listener;
-use crawl_workers::SystemClock;
 use gate_journal::Recording;
 use gate_lock::{Blanks, Gate, GateLock};
 use gate_settlement::SettleFault;
@@ -169,7 +168,7 @@ fn serve_clients<R: Threads + Wait + time::Clock + Sync>(
                 listener,
                 overseers,
                 fetcher: &fetcher,
-                clock: &SystemClock::new(*host),
+                clock: &clock_of(rt, host, &begun.book),
                 alarm: &FullLog { rt: host },
                 workers: options.workers,
                 connections: options.connections,

@@ -38,13 +38,21 @@ impl<'a, 'g, G: Gate, J: Recorder, R: Wait> Clerk<'a, 'g, G, J, R> {
 
     /// Records what is entered, and begins a new file if it is due.
     pub(crate) fn look(&mut self) -> Result<(), DeviceFault> {
+        let Recorded {
+            chronicle,
+            journal,
+            ..
+        } = self.recorded;
         self.looks = self.looks.wrapping_add(1);
         if self.looks % SYNC_LOOKS == 0 {
-            self.recorded.see_to()?;
+            journal.see_to(chronicle.rt, chronicle)?;
         } else {
-            self.recorded.come_up()?;
+            journal.come_up(chronicle.rt, chronicle)?;
         }
-        self.recorded.turn_over(&mut self.sealer);
+        if journal.is_due(chronicle.rt, chronicle) {
+            // If memory ran out, the next try finds it too; a fault of the journal ends each session.
+            let _ = journal.seal(chronicle.rt, chronicle, &mut self.sealer);
+        }
         Ok(())
     }
 

@@ -11,7 +11,7 @@ use counted_io::{Counted, DeviceFault};
 use fetchers::Fetcher;
 use gate_lock::{Gate, Receipts};
 use journal_files::Recorder;
-use journal_keepers::FetchesBehind;
+use journal_keepers::{FetchesBehind, RecordedKeeper};
 use journal_tape::Behind;
 use keepers::{DeskKeeper, Keeper};
 use std::cell::Cell;
@@ -48,7 +48,7 @@ impl<F: Fetcher, C: NumberedClock, A: Alarm, R: Wait + time::Clock> Server<'_, F
         left: &AtomicU64,
         fetcher: &B,
     ) -> Result<Receipts<G>, ServeFault> {
-        let keeper = DeskKeeper::open(self.rt, self.alloc, recorded.gate(), fetcher)?;
+        let keeper = DeskKeeper::open(self.rt, self.alloc, recorded.chronicle.gate, fetcher)?;
         let (keeper, ended) = self.oversee_with(recorded, listener, left, keeper);
         let receipts = keeper.close();
         ended?;
@@ -63,7 +63,12 @@ impl<F: Fetcher, C: NumberedClock, A: Alarm, R: Wait + time::Clock> Server<'_, F
         left: &AtomicU64,
         keeper: K,
     ) -> (K, Result<(), DeviceFault>) {
-        let mut keeper = recorded.keeper(keeper);
+        let Recorded {
+            chronicle,
+            journal,
+            visits,
+        } = recorded;
+        let mut keeper = RecordedKeeper::new(self.rt, chronicle, *journal, visits, keeper);
         let ended = self.take_overseers(recorded, listener, left, &mut keeper);
         (keeper.into_keeper(), ended)
     }
@@ -83,7 +88,7 @@ impl<F: Fetcher, C: NumberedClock, A: Alarm, R: Wait + time::Clock> Server<'_, F
             match listener.accept(self.rt) {
                 Ok(stream) => {
                     self.serve_one(recorded, stream, keeper);
-                    recorded.come_up()?;
+                    recorded.journal.come_up(self.rt, &recorded.chronicle)?;
                 }
                 Err(AcceptFault::Want) => {}
                 Err(AcceptFault::Client | AcceptFault::Device) => {

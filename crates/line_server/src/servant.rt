@@ -13,7 +13,7 @@ use counted_io::{Counted, DeviceFault};
 use fetchers::Fetcher;
 use gate_lock::{Gate, Receipts};
 use journal_files::Recorder;
-use journal_keepers::FetchesBehind;
+use journal_keepers::{FetchesBehind, RecordedKeeper};
 use journal_tape::Behind;
 use keepers::{DeskKeeper, Keeper};
 use std::cell::Cell;
@@ -57,7 +57,7 @@ impl<F: Fetcher, C: NumberedClock, A: Alarm, R: Wait + time::Clock> Server<'_, F
         numbers: ConnectionNumbers<'_>,
         fetcher: &B,
     ) -> Result<(u64, Receipts<G>), ServeFault> {
-        let gate = recorded.gate();
+        let gate = recorded.chronicle.gate;
         let keeper = DeskKeeper::open_within(self.rt, self.alloc, gate, fetcher, self.bounds)?;
         let mut taken = 0;
         let (keeper, ended) = self.man_with(recorded, numbers, keeper, &mut taken);
@@ -74,7 +74,12 @@ impl<F: Fetcher, C: NumberedClock, A: Alarm, R: Wait + time::Clock> Server<'_, F
         keeper: K,
         taken: &mut u64,
     ) -> (K, Result<(), DeviceFault>) {
-        let mut keeper = recorded.keeper(keeper);
+        let Recorded {
+            chronicle,
+            journal,
+            visits,
+        } = recorded;
+        let mut keeper = RecordedKeeper::new(self.rt, chronicle, *journal, visits, keeper);
         let ended = self.take_all(recorded, &mut numbers, &mut keeper, taken);
         (keeper.into_keeper(), ended)
     }
@@ -110,7 +115,7 @@ impl<F: Fetcher, C: NumberedClock, A: Alarm, R: Wait + time::Clock> Server<'_, F
             self.serve_client(recorded, stream, keeper);
             recorded.visits.leave();
             // If what the client left can't be recorded, no other is served.
-            recorded.come_up()?;
+            recorded.journal.come_up(self.rt, &recorded.chronicle)?;
         }
         Ok(())
     }

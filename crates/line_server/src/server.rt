@@ -11,11 +11,12 @@ use client_connections::{Connections, Listener};
 use command_server::NumberedClock;
 use desk_pool::{Pool, Returned};
 use fetchers::Fetcher;
+use gate_journal::Recording;
 use gate_lock::{Gate, GateLock, Receipts};
 use gate_settlement::settle;
 use job_line::JobLine;
 use journal_files::{Recorder, Unrecorded};
-use keepers::Bounds;
+use keepers::{Bounds, Visits};
 use path_normal::Authority;
 use std::alloc::{AllocError, Global};
 use std::sync::Wait;
@@ -129,10 +130,19 @@ impl<
     ) -> Result<(u64, Vec<Receipts<G>>), ServeFault>
         requires { IsCrew self.now.workers }
     {
-        let recorded = Recorded::new(self.rt, self.alloc, gate, journal);
+        let chronicle = Recording {
+            alloc: self.alloc,
+            rt: self.rt,
+            gate,
+        };
+        let recorded = Recorded {
+            chronicle,
+            journal,
+            visits: Visits::new(),
+        };
         let served = self.serve_recorded(&recorded, begun)?;
         // Entries without a reply are recorded too.
-        recorded.see_to()?;
+        journal.see_to(self.rt, &recorded.chronicle)?;
         Ok(served)
     }
 

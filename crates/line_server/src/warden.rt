@@ -49,7 +49,7 @@ impl<F: Fetcher, C: NumberedClock, A: Alarm, R: Wait + time::Clock> Server<'_, F
         left: &AtomicU64,
     ) -> Result<(Receipts<G>, Receipts<G>), ServeFault> {
         let mut clerk = Clerk::open(self.alloc, recorded)?;
-        let swept = self.sweep_all(recorded.gate(), &mut clerk, left);
+        let swept = self.sweep_all(recorded.chronicle.gate, &mut clerk, left);
         let sealed = clerk.close();
         Ok((swept?, sealed))
     }

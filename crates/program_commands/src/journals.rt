@@ -39,6 +39,14 @@ pub fn tell_torn_line(rt: &HostRuntime, file: &str, octets: u64) {
     );
 }
 
+/// Prints by how many seconds the clock is behind a journal's last entry. The program goes on.
+pub fn tell_clock_set_back(rt: &HostRuntime, seconds: u64) {
+    // If standard error fails, the clock stays.
+    let _ = eprintln!(rt;
+        "crawlgate: journal: the clock is {seconds} s behind the last entry, so each robots.txt is fetched anew"
+    );
+}
+
 /// Prints that a journal's file has no room for the lines that would end what is out; the program ends.
 pub fn tell_full_journal(rt: &HostRuntime, file: &str) -> Ending {
     tell(rt, file, "has as many entries as a text may have")

@@ -23,8 +23,8 @@ pub use asked::run;
 pub use books::new_book;
 pub use ending::Ending;
 pub use journals::{
-    tell_bad_folder, tell_bad_journal, tell_failed_journal, tell_few_slots, tell_full_journal,
-    tell_short_journal, tell_torn_line, tell_unread_journal,
+    tell_bad_folder, tell_bad_journal, tell_clock_set_back, tell_failed_journal, tell_few_slots,
+    tell_full_journal, tell_short_journal, tell_torn_line, tell_unread_journal,
 };
 pub use message::Message;
 pub use next::Next;

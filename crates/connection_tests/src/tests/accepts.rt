@@ -55,13 +55,18 @@ const FAULTS: [(&str, i32, u32, bool, u32, u128); 14] = [
 
 #[test]
 fn faults(_rt: HostRuntime) -> Result<(), Fail> {
-    for (name, number, times, holds, calls, time) in &FAULTS {
-        let given = result_of(*number, *times);
-        demand(given == (*holds, *calls, *time), name)?;
-    }
+    check_faults(&FAULTS)?;
     // Errors without a system number are the device's.
     let error = io::Error::from(ErrorKind::ConnectionAborted);
     demand(AcceptFault::of(&error) == AcceptFault::Device, "no number")
+}
+
+fn check_faults(rows: &[(&str, i32, u32, bool, u32, u128)]) -> Result<(), Fail> {
+    for (name, number, times, holds, calls, time) in rows {
+        let given = result_of(*number, *times);
+        demand(given == (*holds, *calls, *time), name)?;
+    }
+    Ok(())
 }
 
 // Whether a connection is accepted, and the calls and time.

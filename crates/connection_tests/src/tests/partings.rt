@@ -46,12 +46,17 @@ const PARTINGS: [(&str, &[ScriptStep], usize, u128); 7] = [
 
 #[test]
 fn partings(_rt: HostRuntime) -> Result<(), Fail> {
-    for (name, script, octets, time) in &PARTINGS {
-        demand(read_of(script, true) == (*octets, *time), name)?;
-    }
+    check_partings(&PARTINGS)?;
     // Nothing is read from a client that is gone.
     let gone = read_of(&[ScriptStep::Moves(0, SIXTEEN)], false);
     demand(gone == (0, 0), "it is gone")
+}
+
+fn check_partings(rows: &[(&str, &[ScriptStep], usize, u128)]) -> Result<(), Fail> {
+    for (name, script, octets, time) in rows {
+        demand(read_of(script, true) == (*octets, *time), name)?;
+    }
+    Ok(())
 }
 
 // The octets that are read from a client, and the time.

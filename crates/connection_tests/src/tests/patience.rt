@@ -78,12 +78,17 @@ const READS: [(&str, &[ScriptStep], u32, u128); 9] = [
 
 #[test]
 fn reads(_rt: HostRuntime) -> Result<(), Fail> {
-    for (name, script, count, time) in &READS {
-        demand(read_by(PATIENCE_SECONDS, script) == (*count, *time), name)?;
-    }
+    check_reads(&READS)?;
     // The patience may be another.
     let given = read_by(2, &[ScriptStep::Moves(500, "a")]);
     demand(given == (4, 2_000), "two seconds")
+}
+
+fn check_reads(rows: &[(&str, &[ScriptStep], u32, u128)]) -> Result<(), Fail> {
+    for (name, script, count, time) in rows {
+        demand(read_by(PATIENCE_SECONDS, script) == (*count, *time), name)?;
+    }
+    Ok(())
 }
 
 // How many reads succeed, and the time.
@@ -133,7 +138,11 @@ const WRITES: [(&str, &[ScriptStep], u32, u128); 4] = [
 
 #[test]
 fn writes(_rt: HostRuntime) -> Result<(), Fail> {
-    for (name, script, count, time) in &WRITES {
+    check_writes(&WRITES)
+}
+
+fn check_writes(rows: &[(&str, &[ScriptStep], u32, u128)]) -> Result<(), Fail> {
+    for (name, script, count, time) in rows {
         demand(written_by(script) == (*count, *time), name)?;
     }
     Ok(())

@@ -93,8 +93,12 @@ const TURNS: [(&str, &str, &str); 10] = [
 
 #[test]
 fn turns(rt: HostRuntime) -> Result<(), Fail> {
-    for (name, brought, calls) in &TURNS {
-        demand(are_in_turn(rt.alloc(), brought, calls), name)?;
+    check_turns(rt.alloc(), &TURNS)
+}
+
+fn check_turns(alloc: Global, rows: &[(&str, &'static str, &str)]) -> Result<(), Fail> {
+    for (name, brought, calls) in rows {
+        demand(are_in_turn(alloc, brought, calls), name)?;
     }
     Ok(())
 }
@@ -174,8 +178,12 @@ const LINES: [(&str, &str, usize, &[usize]); 6] = [
 
 #[test]
 fn together(rt: HostRuntime) -> Result<(), Fail> {
-    for (name, brought, room, counts) in &LINES {
-        demand(come_together(rt.alloc(), brought, *room, counts), name)?;
+    check_lines(rt.alloc(), &LINES)
+}
+
+fn check_lines(alloc: Global, rows: &[(&str, &'static str, usize, &[usize])]) -> Result<(), Fail> {
+    for (name, brought, room, counts) in rows {
+        demand(come_together(alloc, brought, *room, counts), name)?;
     }
     Ok(())
 }

@@ -88,9 +88,13 @@ const HEADERS: [(&str, &str, &str, [&[u8]; 4]); 6] = [
 
 #[test]
 fn headers(rt: HostRuntime) -> Result<(), Fail> {
-    for (name, text, address, parts) in &HEADERS {
-        let url = PageUrl::parse_among(rt.alloc(), Schemes::HttpAndHttps, text)?;
-        demand(has_parts(rt.alloc(), &url, address, parts)?, name)?;
+    check_headers(rt.alloc(), &HEADERS)
+}
+
+fn check_headers(alloc: Global, rows: &[(&str, &str, &str, [&[u8]; 4])]) -> Result<(), Fail> {
+    for (name, text, address, parts) in rows {
+        let url = PageUrl::parse_among(alloc, Schemes::HttpAndHttps, text)?;
+        demand(has_parts(alloc, &url, address, parts)?, name)?;
     }
     Ok(())
 }
