@@ -38,12 +38,37 @@ pub(super) type LongRow = (
 
 #[test]
 fn gives_each_row_whatever_the_reads(rt: HostRuntime) -> Result<(), Fail> {
-    give_rows(rt.alloc(), "", &responses::ROWS)?;
-    give_rows(rt.alloc(), chunks::HEAD, &chunks::ROWS)?;
-    give_rows(rt.alloc(), freshness::HEAD, &freshness::FIELDS)?;
-    give_rows(rt.alloc(), "", &freshness::RESPONSES)?;
-    give_rows(rt.alloc(), limits::REDIRECT, &limits::LOCATIONS)?;
-    give_rows(rt.alloc(), "", &stops::STOPS)
+    give_whole_responses(rt.alloc())?;
+    give_bodies_in_chunks(rt.alloc())?;
+    give_fields(rt.alloc())?;
+    give_ages(rt.alloc())?;
+    give_redirects(rt.alloc())?;
+    give_stops(rt.alloc())
+}
+
+// (A table is a large value: whoever names one does nothing else.)
+fn give_whole_responses(alloc: Global) -> Result<(), Fail> {
+    give_rows(alloc, "", &responses::ROWS)
+}
+
+fn give_bodies_in_chunks(alloc: Global) -> Result<(), Fail> {
+    give_rows(alloc, chunks::HEAD, &chunks::ROWS)
+}
+
+fn give_fields(alloc: Global) -> Result<(), Fail> {
+    give_rows(alloc, freshness::HEAD, &freshness::FIELDS)
+}
+
+fn give_ages(alloc: Global) -> Result<(), Fail> {
+    give_rows(alloc, "", &freshness::RESPONSES)
+}
+
+fn give_redirects(alloc: Global) -> Result<(), Fail> {
+    give_rows(alloc, limits::REDIRECT, &limits::LOCATIONS)
+}
+
+fn give_stops(alloc: Global) -> Result<(), Fail> {
+    give_rows(alloc, "", &stops::STOPS)
 }
 
 fn give_rows(alloc: Global, head: &str, rows: &[Row]) -> Result<(), Fail> {
@@ -149,7 +174,6 @@ fn reads_no_octet_more_than_it_needs(rt: HostRuntime) -> Result<(), Fail> {
     stop_behind(rt.alloc(), &stops::STOPS)
 }
 
-// (A table is a large value: whoever names one does nothing else.)
 fn stop_behind(alloc: Global, rows: &[Row]) -> Result<(), Fail> {
     for (name, text, limit, want) in rows {
         let octets = octets_of(alloc, "", text)?;
