@@ -9,6 +9,7 @@ import tempfile
 from headers import https_headers
 from lib import tls
 from lib.cases import Skipped
+from lib.sites import reset
 from loopback import NO_ROBOTS, PAGE, RULES, Replies, Site, answer, crawl, redirect
 
 # what the table says of a job: outcome, status, octets, cause
@@ -143,18 +144,97 @@ async def take_one(listener):
 
 
 async def https_opener_gone():
-    """What opens TLS is gone once the crawl has begun: the site of https is closed, and that of http is crawled."""
-    secure, plain = Site(answer), Site(answer)
+    """What opens TLS is gone once the crawl has begun: the site of https is closed, and that of http is crawled. A name that
+    nobody has is told before it is missed."""
+    secure, nowhere, plain = Site(answer), Site(answer), Site(answer)
     await plain.listen()
-    secure.scheme, secure.address, secure.server = "https", "localhost:1", plain.server
+    for site, address in (secure, "localhost:1"), (nowhere, "a" * 64 + ".invalid"):
+        site.scheme, site.address, site.server = "https", address, plain.server
     listener = socket.create_server(("127.0.0.1", 0))
     listener.setblocking(False)
     words = ["--tsv", "--tls-by", f"127.0.0.1:{listener.getsockname()[1]}"]
-    ends = [(secure, "/x", ("NO", "", "", "robots: no TLS program")), (plain, "/x", OPEN), (plain, "/y", OPEN)]
+    ends = [(secure, "/x", ("NO", "", "", "robots: no TLS program")), (nowhere, "/x", ("NO", "", "", "robots: no such name"))]
+    ends += [(plain, "/x", OPEN), (plain, "/y", OPEN)]
     jobs = [(site, target) for site, target, _ in ends]
     text, _, _ = await crawl(words, jobs, meanwhile=asyncio.wait_for(take_one(listener), 10))
     count, differ = differing(text, ends)
     return f"of {count} {LINES}, those that differ", differ, 0
+
+
+# what a program does with the request for a page, by the last octet of the page's address, and what is told of it
+SCRIPTS = {
+    1: (PAGE, OPEN),
+    # an end behind one octet, and what is no HTTP
+    2: (b"H", CUT),
+    3: (b"220 mail.a.example ESMTP\r\n\r\n", ("FAULT", "", "", "bad head")),
+    # the end of the connection, a reset, and nothing
+    4: (b"", ("FAULT", "", "", "no TLS connection")),
+    5: ("reset", ("FAULT", "", "", "no TLS connection")),
+    6: (None, ("FAULT", "", "", "silent 2 s")),
+}
+
+
+class Opener:
+    """What takes the place of a program that opens TLS, and connects to nobody: it answers by its scripts, and keeps what it
+    was sent."""
+
+    def __init__(self):
+        self.seen = []
+
+    async def serve(self, reader, writer):
+        with contextlib.suppress(OSError, asyncio.IncompleteReadError):
+            front = await reader.readexactly(16)
+            header = front + await reader.readexactly(int.from_bytes(front[14:], "big"))
+            request = await reader.readuntil(b"\r\n\r\n")
+            self.seen.append((header, request))
+            reply = NO_ROBOTS if b" /robots.txt " in request else SCRIPTS[header[19]][0]
+            if reply == "reset":
+                reset(writer.get_extra_info("socket"))
+            elif reply is None:
+                await reader.read()
+            else:
+                writer.write(reply)
+                await writer.drain()
+        writer.close()
+
+
+def secure_site(address, server):
+    site = Site(answer)
+    site.scheme, site.address, site.server = "https", address, server
+    return site
+
+
+def sent(address, port, target, agent):
+    """Returns what is sent for a page of an address of IPv4: the header of the PROXY protocol, version 2, sections 2.2 and
+    2.2.2, and the request."""
+    name = address.encode()
+    octets = socket.inet_aton(address) * 2 + port.to_bytes(2, "big") * 2 + b"\x02" + len(name).to_bytes(2, "big") + name
+    host = address if port == 443 else f"{address}:{port}"
+    fields = [f"GET {target} HTTP/1.1", f"Host: {host}", f"User-Agent: {agent}", "Accept: */*", "Accept-Encoding: identity", "Connection: close", "", ""]
+    return b"\r\n\r\n\0\r\nQUIT\n\x21\x11" + len(octets).to_bytes(2, "big") + octets, "\r\n".join(fields).encode()
+
+
+async def https_by_scripts():
+    """How each way in which a program that opens TLS ends a connection is told, and all that it was sent. With --public nothing
+    is sent for a page of this machine."""
+    opener = Opener()
+    server = await asyncio.start_server(opener.serve, "127.0.0.1", 0)
+    words = ["--tsv", "--workers", "16", "--read-timeout", "2", "--tls-by", "127.0.0.1:%d" % server.sockets[0].getsockname()[1]]
+    sites = [secure_site(f"192.0.2.{it}", server) for it in SCRIPTS] + [secure_site("192.0.2.1:8443", server)]
+    ends = [(site, "/x?q", told) for site, (_, told) in zip(sites, [*SCRIPTS.values(), SCRIPTS[1]])]
+    kept, server.close = server.close, lambda: None
+    text, _, _ = await crawl(words, [(site, target) for site, target, _ in ends])
+    count, differ = differing(text, ends)
+    places = [(f"192.0.2.{it}", 443) for it in SCRIPTS] + [("192.0.2.1", 8443)]
+    wanted = [sent(*place, *it) for place in places for it in (("/robots.txt", "crawlgate"), ("/x?q", "foobot"))]
+    assert sorted(opener.seen) == sorted(wanted), opener.seen
+    opener.seen.clear()
+    near = [(secure_site(address, server), "/x", ("NO", "", "", "robots: unreachable")) for address in ("127.0.0.1", "[::1]:8443")]
+    text, _, _ = await crawl([*words, "--public"], [(site, target) for site, target, _ in near])
+    kept()
+    more, others = differing(text, near)
+    assert not opener.seen, opener.seen
+    return f"of {count + more} {LINES}, those that differ", differ + others, 0
 
 
 async def site_of(behave, context=None, kind=Site):
@@ -189,15 +269,21 @@ async def https_pages(opener, folder, contexts):
     large = await site_of(Replies(NO_ROBOTS, page), contexts["good"])
     cut = [await site_of(kind(NO_ROBOTS, PAGE[:-2]), contexts["good"]) for kind in (Replies, Ended)]
     targets = [await site_of(answer), await site_of(answer, contexts["good"])]
-    leads = [redirect(f"{it.scheme}://{it.address}/from-other".encode()) for it in targets]
+    shut = await site_of(Replies(DENY_ALL, PAGE), contexts["good"])
+    leads = [redirect(f"{it.scheme}://{it.address}/from-other".encode()) for it in [*targets, shut]]
     secure, plain = await site_of(Replies(NO_ROBOTS, leads[0]), contexts["good"]), await site_of(Replies(NO_ROBOTS, leads[1]))
+    # (its page leads to one that is denied; and a robots.txt of https leads to one of http, which is none)
+    denied = await site_of(Replies(NO_ROBOTS, leads[2]))
+    led = await site_of(Replies(redirect(f"http://{targets[0].address}/robots.txt".encode()), PAGE), contexts["good"])
     ends = [(large, "/x", ("PAGE", "200", str(LARGE), "open"))] + [(site, "/x", CUT) for site in cut]
     ends += [(site, "/y", moved(OPEN), OPEN) for site in (secure, plain)]
+    ends += [(denied, "/y", moved(OPEN), DENIED), (led, "/y", OPEN)]
     counts = await table_of(ends, opener, folder)
-    for site in targets:
+    for site in [*targets, shut]:
         site.server.close()
+    assert asked(shut) == (1, []), asked(shut)
     found = [asked(site) for site in (*cut, secure, plain, *targets)]
-    assert found == [(1, ["/x"])] * 2 + [(1, ["/y"])] * 2 + [(1, ["/from-other"])] * 2, found
+    assert found == [(1, ["/x"])] * 2 + [(1, ["/y"])] * 2 + [(2, ["/from-other"]), (1, ["/from-other"])], found
     return counts
 
 
@@ -268,4 +354,4 @@ CASES = {
     https_headers: "headers to what opens TLS",
 }
 OPENERS = [through(tls.by_stand_in), through(tls.by_haproxy, "haproxy")]
-CRAWLS = [https_opener_gone] + [made(case, what) for made in OPENERS for case, what in CASES.items()]
+CRAWLS = [https_opener_gone, https_by_scripts] + [made(case, what) for made in OPENERS for case, what in CASES.items()]

@@ -51,7 +51,7 @@ class Site:
                 self.targets.append(target)
             await self.behave(self, writer, target)
             await writer.drain()
-        except (OSError, asyncio.IncompleteReadError, asyncio.CancelledError):
+        except (OSError, asyncio.IncompleteReadError, asyncio.CancelledError, asyncio.TimeoutError):
             pass
         finally:
             writer.close()

@@ -40,4 +40,14 @@ async def paced_over_redirects():
     return "seconds from the first request to the last where three redirects lead to a site", seconds_of([*sites, end]), 5.5
 
 
-CRAWLS = [paced, paced_over_redirects]
+async def paced_denials():
+    """Pages that are denied take no turn, but the first of them waits until its site has rested from the fetch of its
+    robots.txt."""
+    (site,) = await sites_of(be_mixed)
+    report, took, _ = await crawl(["--workers", "4", "--delay", "1"], [(site, f"/private/{n}") for n in range(3)])
+    assert report.endswith("SHIFT jobs 3 hops 3 starts 0\n") and report.count(" line 2\n") == 3, report
+    in_time(took, 60, 0.75)
+    return "seconds of three pages of a site, one in a second, that are denied", took, 2.5
+
+
+CRAWLS = [paced, paced_over_redirects, paced_denials]

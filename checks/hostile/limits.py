@@ -3,6 +3,7 @@ import contextlib
 import os
 import re
 import resource
+import select
 import shutil
 import signal
 import subprocess
@@ -124,11 +125,31 @@ def killed(tried, number):
     tried.expect(f"signal {number}", b"", told.startswith("OK ") and not rest and process.returncode == -number, f"{told}, status {process.returncode}, {short(rest)}")
 
 
+def replies_first(tried):
+    """However the lines come, each reply is there before the program waits for the next line."""
+    lines, reply = b"1 BACK 7\n" * 5, b"ERR notout\n"
+    for cut in (1, 3, 10, len(lines)):
+        process = subprocess.Popen([tried.program, "replay"], stdin=subprocess.PIPE, stdout=subprocess.PIPE)
+        found, sent = b"", 0
+        while sent < len(lines):
+            piece = lines[sent : sent + cut]
+            process.stdin.write(piece)
+            process.stdin.flush()
+            sent += len(piece)
+            wanted = reply * lines[:sent].count(b"\n")
+            while len(found) < len(wanted) and select.select([process.stdout], [], [], SECONDS)[0]:
+                found += os.read(process.stdout.fileno(), 4_096)
+            tried.expect("replies before the next line", lines[:sent], found == wanted, f"{short(found)}, in pieces of {cut}")
+        rest = process.communicate(timeout=SECONDS)[0]
+        tried.expect("replies before the next line", lines, not rest and process.returncode == 0, short(rest))
+
+
 def try_all(tried, seconds, only=None):
     site = memory.hostile_site()
     no_threads(tried, site)
     few_descriptors(tried, site)
     full_file(tried)
+    replies_first(tried)
     for number in (signal.SIGTERM, signal.SIGINT, signal.SIGKILL):
         killed(tried, number)
     little_room(tried, site, seconds)

@@ -146,6 +146,27 @@ def a_file_that_is_cut_anywhere():
     return f"{len(WHOLE) + 1} places"
 
 
+def goes_on_from_the_last_file():
+    """The last file is the one behind most entries, whichever was written last; with no file the folder is begun."""
+    with tempfile.TemporaryDirectory() as folder:
+        put(folder, FIRST, "V 2\nx\n")
+        put(folder, f"{20:020}", "V 3\nT 20 0 1 100\nH a.example 1 100 O unavailable\nE\n")
+        put(folder, f"{3:020}", "V 3\nx\n")
+        with Recorded(folder, "--connections", "1") as server, Session(server) as it:
+            same(it.say("WHY a.example"), "WHY a.example 1 100 O unavailable")
+            same(it.say("ASK foobot http://b.example/"), "NO b.example unknown")
+            same(it.say("QUIT"), "BYE")
+            same(server.end(), (b"SERVED connections 1 events 21\n", 0, b""))
+        with open(f"{server.folder}/{20:020}") as file:
+            same(file.read().splitlines()[-1].split(" ")[2:], ["foobot", "http://b.example/", "unknown"])
+    with tempfile.TemporaryDirectory() as folder:
+        os.makedirs(f"{folder}/journal")
+        with Recorded(folder, "--connections", "1") as server, Session(server) as it:
+            same(it.say("QUIT"), "BYE")
+            same(server.end(), (b"SERVED connections 1 events 0\n", 0, b""))
+        same(sorted(os.listdir(server.folder)), [".lock", FIRST])
+
+
 def a_line_that_is_wrong():
     """A whole line that no history has ends the start, and nothing is written."""
     rows = [
@@ -247,6 +268,7 @@ CASES = [
     a_turn_that_was_killed,
     goes_on_behind_a_seal,
     a_file_that_is_cut_anywhere,
+    goes_on_from_the_last_file,
     a_line_that_is_wrong,
     files_that_are_none_of_a_journal,
     fewer_slots_than_were_granted,

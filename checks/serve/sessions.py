@@ -159,6 +159,22 @@ def one_robots_fetch_at_a_time():
         same(site.asked, ["/robots.txt", "/x"])
 
 
+def answers_are_waited_for():
+    """Sixteen clients have the same pages fetched at the same time: whoever does not fetch a robots.txt waits for the answer
+    of who does, and each file is fetched once."""
+    sites = [open_site({"/robots.txt": (0.02, response(404))}) for _ in range(100)]
+
+    def play(client):
+        with Session(server) as it:
+            for site in sites:
+                it.send(f"FETCH foobot {site.url('/x')}\n".encode())
+                same(it.lines(3), ["HOP 1 PAGE open 200 5 whole", "BODY 5", "hello"])
+
+    with Server("--workers", "16") as server:
+        side_by_side(play, range(16))
+    same([site.asked.count("/robots.txt") for site in sites], [1] * len(sites))
+
+
 def urls_as_written():
     """A client is told how the gate writes a URL."""
     rows = [
@@ -281,6 +297,6 @@ def ends_of_lines():
 
 CASES = [
     quits, connections_are_counted, without_end, two_sessions, segments_are_what_was_served, fetches, faults_of_lines, site_is_down,
-    one_robots_fetch_at_a_time, robots_file_elsewhere, urls_as_written, look_inside, thousand_lines_at_once, million_lines,
-    line_by_octets, ends_of_lines,
+    one_robots_fetch_at_a_time, answers_are_waited_for, robots_file_elsewhere, urls_as_written, look_inside, thousand_lines_at_once,
+    million_lines, line_by_octets, ends_of_lines,
 ]

@@ -1,7 +1,7 @@
-//! Tests of a gate's desks and threads. Rows of the built program show its replies call by call.
+//! Tests of a gate's desks. Rows of the built program show its replies call by call, and cases of checks/serve
+//! its desks among threads.
 //! RFC 9309, sections 2.2 to 2.4.
 
-mod bags;
 mod desk_calls;
 mod entries;
 mod gates;
@@ -9,9 +9,4 @@ mod indexes;
 mod judged;
 mod limits;
 mod resumed;
-mod seals;
-mod sessions;
-mod states;
-mod threads;
 mod verdicts;
-mod wakes;

@@ -1,4 +1,4 @@
-//! Tests of journals: tapes that fail at each call, and files.
+//! Tests of journals: tapes that fail at each call. Those of its files are cases of checks/serve.
 #![tactic(auto)]
 
 #[cfg(test)]

@@ -1,7 +1,3 @@
-//! Rows over journals in memory and in system files.
+//! Rows over journals in memory.
 
-mod behind;
 mod crashes;
-mod files;
-mod folders;
-mod groups;

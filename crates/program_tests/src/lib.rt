@@ -1,4 +1,4 @@
-//! Tests of whole sessions, of shifts and of the program's arguments.
+//! Tests of sessions of lines and of robots texts: a fault at each read and write, and a list of calls.
 //! Rows of the built program are under checks/rows.
 #![tactic(auto)]
 

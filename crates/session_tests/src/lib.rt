@@ -1,4 +1,5 @@
-//! Tests of a client's sessions with keepers: a book alone, and desks of one gate.
+//! Tests of a client's sessions with keepers: a book alone, and a desk of a gate.
+//! Sessions of the built program are cases of checks/serve.
 #![tactic(auto)]
 
 #[cfg(test)]

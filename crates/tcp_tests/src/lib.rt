@@ -1,5 +1,5 @@
-//! Tests of pages over TCP, and of lines of jobs for several workers.
-//! Each module names the source of its rows.
+//! Tests of what is fetched over TCP, and of lines of jobs. Fetches of the built program are under checks/crawls and
+//! checks/rows.
 #![tactic(auto)]
 
 #[cfg(test)]

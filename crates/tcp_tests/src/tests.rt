@@ -1,11 +1,14 @@
-//! Tests beyond the clauses: real loopback connections, with their servers, faults and times.
+//! Tests beyond the clauses, which the built program can't show.
 
-mod endings;
-mod fetches;
 mod interrupts;
 mod line;
 mod servers;
-mod stalls;
-mod test_server;
 mod tls_headers;
-mod tls_programs;
+mod unsent;
+
+use std::test::Fail;
+
+// Fails with the row's name unless it holds.
+fn demand(holds: bool, name: &str) -> Result<(), Fail> {
+    if holds { Ok(()) } else { Err(Fail::new(name)) }
+}

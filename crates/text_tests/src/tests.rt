@@ -11,3 +11,10 @@ mod octets;
 mod policies;
 mod ratios;
 mod schemes;
+
+use std::test::Fail;
+
+// Fails with the row's name unless it holds.
+fn demand(holds: bool, name: &str) -> Result<(), Fail> {
+    if holds { Ok(()) } else { Err(Fail::new(name)) }
+}

@@ -1,5 +1,4 @@
-//! Tests of workers' jobs: over sites in memory, and over TCP on the loopback.
-//! Each module describes its rows.
+//! Tests of workers at clocks of their own. Shifts of the built program are under checks/rows and checks/crawls.
 #![tactic(auto)]
 
 #[cfg(test)]

@@ -1,17 +1,6 @@
-//! Tests of what contracts don't show: how workers disturb each other, their waits, and how often a
-//! robots.txt
-//! is fetched.
+//! Tests of what neither contracts nor the built program show: workers at clocks of the tests, and a gate that
+//! was used before.
 
 mod clocks;
-mod jobs;
-mod leaves;
-mod overlap;
-mod pages;
-mod pauses;
 mod readings;
-mod refreshes;
-mod schemes;
-mod scripts;
 mod shift;
-mod waits;
-mod words;

@@ -1,12 +1,12 @@
 //! Listeners that accept no connection.
 //! The numbers are those of errno(3) of Linux. Times are in milliseconds.
 
+use super::demand;
 use super::scripted::HandClock;
 use client_connections::{AcceptFault, Accepts, accept_from};
 use std::cell::Cell;
 use std::io;
 use std::io::ErrorKind;
-use std::process::Abort;
 use std::test::Fail;
 
 #[derive(Drop)]
@@ -54,36 +54,29 @@ const FAULTS: [(&str, i32, u32, bool, u32, u128); 14] = [
 ];
 
 #[test]
-fn faults(rt: HostRuntime) -> Result<(), Fail> {
-    for (name, number, times, holds, calls, time) in FAULTS {
-        check_faults(&rt, name, (number, times), holds, calls, time);
+fn faults(_rt: HostRuntime) -> Result<(), Fail> {
+    check_faults(&FAULTS)?;
+    // Errors without a system number are the device's.
+    let error = io::Error::from(ErrorKind::ConnectionAborted);
+    demand(AcceptFault::of(&error) == AcceptFault::Device, "no number")
+}
+
+fn check_faults(rows: &[(&str, i32, u32, bool, u32, u128)]) -> Result<(), Fail> {
+    for (name, number, times, holds, calls, time) in rows {
+        let given = result_of(*number, *times);
+        demand(given == (*holds, *calls, *time), name)?;
     }
     Ok(())
 }
 
-fn check_faults(
-    rt: &impl Abort,
-    name: &str,
-    faults: (i32, u32),
-    holds: bool,
-    calls: u32,
-    time: u128,
-) {
+// Whether a connection is accepted, and the calls and time.
+fn result_of(number: i32, times: u32) -> (bool, u32, u128) {
     let clock = HandClock::new();
     let listener = Failing {
-        number: faults.0,
-        left: Cell::new(faults.1),
+        number,
+        left: Cell::new(times),
         calls: Cell::new(0),
     };
-    assert_eq!(rt; accept_from(&clock, &listener).is_ok(), holds, "{name}");
-    assert_eq!(rt; listener.calls.get(), calls, "{name}");
-    assert_eq!(rt; clock.milliseconds(), time, "{name}");
-}
-
-// Errors without a system number are the device's.
-#[test]
-fn no_number(rt: HostRuntime) -> Result<(), Fail> {
-    let error = io::Error::from(ErrorKind::ConnectionAborted);
-    assert_eq!(rt; AcceptFault::of(&error), AcceptFault::Device);
-    Ok(())
+    let holds = accept_from(&clock, &listener).is_ok();
+    (holds, listener.calls.get(), clock.milliseconds())
 }

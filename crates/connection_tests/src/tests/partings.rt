@@ -1,9 +1,9 @@
 //! What is read from closing connections.
 //! docs/FORMATS.md, limits. Times are in milliseconds.
 
+use super::demand;
 use super::scripted::{HandClock, ScriptStep, Scripted};
 use client_connections::read_out;
-use std::process::Abort;
 use std::test::Fail;
 
 const SIXTEEN: &str = "0123456789abcdef";
@@ -45,29 +45,25 @@ const PARTINGS: [(&str, &[ScriptStep], usize, u128); 7] = [
 ];
 
 #[test]
-fn partings(rt: HostRuntime) -> Result<(), Fail> {
-    for (name, script, octets, time) in PARTINGS {
-        check_parting(&rt, name, script, octets, time);
+fn partings(_rt: HostRuntime) -> Result<(), Fail> {
+    check_partings(&PARTINGS)?;
+    // Nothing is read from a client that is gone.
+    let gone = read_of(&[ScriptStep::Moves(0, SIXTEEN)], false);
+    demand(gone == (0, 0), "it is gone")
+}
+
+fn check_partings(rows: &[(&str, &[ScriptStep], usize, u128)]) -> Result<(), Fail> {
+    for (name, script, octets, time) in rows {
+        demand(read_of(script, true) == (*octets, *time), name)?;
     }
     Ok(())
 }
 
-fn check_parting(rt: &impl Abort, name: &str, script: &[ScriptStep], octets: usize, time: u128) {
+// The octets that are read from a client, and the time.
+fn read_of(script: &[ScriptStep], is_there: bool) -> (usize, u128) {
     let clock = HandClock::new();
     let mut client = Scripted::new(&clock, script);
+    client.is_there = is_there;
     read_out(&clock, &mut client);
-    assert_eq!(rt; client.moved, octets, "{name}");
-    assert_eq!(rt; clock.milliseconds(), time, "{name}");
-}
-
-// Nothing is read from a client that is gone.
-#[test]
-fn gone(rt: HostRuntime) -> Result<(), Fail> {
-    let clock = HandClock::new();
-    let script = [ScriptStep::Moves(0, SIXTEEN)];
-    let mut client = Scripted::new(&clock, &script);
-    client.is_there = false;
-    read_out(&clock, &mut client);
-    assert_eq!(rt; client.moved, 0);
-    Ok(())
+    (client.moved, clock.milliseconds())
 }

@@ -1,11 +1,11 @@
 //! How long reads and writes wait for a client.
 //! docs/FORMATS.md, limits. Times are in milliseconds.
 
+use super::demand;
 use super::scripted::{HandClock, ScriptStep, Scripted};
 use client_connections::{ClientStream, PATIENCE_SECONDS, Waiting};
 use std::cell::Cell;
 use std::io::{Read, Write};
-use std::process::Abort;
 use std::test::Fail;
 
 // The most reads.
@@ -77,19 +77,26 @@ const READS: [(&str, &[ScriptStep], u32, u128); 9] = [
 ];
 
 #[test]
-fn reads(rt: HostRuntime) -> Result<(), Fail> {
-    for (name, script, count, time) in READS {
-        check_reads(&rt, name, script, count, time);
+fn reads(_rt: HostRuntime) -> Result<(), Fail> {
+    check_reads(&READS)?;
+    // The patience may be another.
+    let given = read_by(2, &[ScriptStep::Moves(500, "a")]);
+    demand(given == (4, 2_000), "two seconds")
+}
+
+fn check_reads(rows: &[(&str, &[ScriptStep], u32, u128)]) -> Result<(), Fail> {
+    for (name, script, count, time) in rows {
+        demand(read_by(PATIENCE_SECONDS, script) == (*count, *time), name)?;
     }
     Ok(())
 }
 
-fn check_reads(rt: &impl Abort, name: &str, script: &[ScriptStep], count: u32, time: u128) {
+// How many reads succeed, and the time.
+fn read_by(patience: u64, script: &[ScriptStep]) -> (u32, u128) {
     let clock = HandClock::new();
-    let waiting = Cell::new(Waiting::of_seconds(PATIENCE_SECONDS));
+    let waiting = Cell::new(Waiting::of_seconds(patience));
     let mut client = ClientStream::new(&clock, Scripted::new(&clock, script), &waiting);
-    assert_eq!(rt; reads_of(&mut client), count, "{name}");
-    assert_eq!(rt; clock.milliseconds(), time, "{name}");
+    (reads_of(&mut client), clock.milliseconds())
 }
 
 fn reads_of<R: Read>(client: &mut R) -> u32 {
@@ -130,19 +137,22 @@ const WRITES: [(&str, &[ScriptStep], u32, u128); 4] = [
 ];
 
 #[test]
-fn writes(rt: HostRuntime) -> Result<(), Fail> {
-    for (name, script, count, time) in WRITES {
-        check_writes(&rt, name, script, count, time);
+fn writes(_rt: HostRuntime) -> Result<(), Fail> {
+    check_writes(&WRITES)
+}
+
+fn check_writes(rows: &[(&str, &[ScriptStep], u32, u128)]) -> Result<(), Fail> {
+    for (name, script, count, time) in rows {
+        demand(written_by(script) == (*count, *time), name)?;
     }
     Ok(())
 }
 
-fn check_writes(rt: &impl Abort, name: &str, script: &[ScriptStep], count: u32, time: u128) {
+fn written_by(script: &[ScriptStep]) -> (u32, u128) {
     let clock = HandClock::new();
     let waiting = Cell::new(Waiting::of_seconds(PATIENCE_SECONDS));
     let mut client = ClientStream::new(&clock, Scripted::new(&clock, script), &waiting);
-    assert_eq!(rt; writes_of(&mut client), count, "{name}");
-    assert_eq!(rt; clock.milliseconds(), time, "{name}");
+    (writes_of(&mut client), clock.milliseconds())
 }
 
 fn writes_of<W: Write>(client: &mut W) -> u32 {
@@ -184,42 +194,28 @@ const BOTH: [(&str, &[ScriptStep], &[ScriptStep], &str); 4] = [
 ];
 
 #[test]
-fn both_sides(rt: HostRuntime) -> Result<(), Fail> {
-    for (name, read, written, want) in BOTH {
-        check_both(&rt, name, read, written, want);
+fn both_sides(_rt: HostRuntime) -> Result<(), Fail> {
+    for (name, read, written, want) in &BOTH {
+        demand(are_so(read, written, want), name)?;
     }
     Ok(())
 }
 
-fn check_both(
-    rt: &impl Abort,
-    name: &str,
-    read: &[ScriptStep],
-    written: &[ScriptStep],
-    want: &str,
-) {
+fn are_so(read: &[ScriptStep], written: &[ScriptStep], want: &str) -> bool {
     let clock = HandClock::new();
     let waiting = Cell::new(Waiting::of_seconds(PATIENCE_SECONDS));
     let mut reader = ClientStream::new(&clock, Scripted::new(&clock, read), &waiting);
     let mut writer = ClientStream::new(&clock, Scripted::new(&clock, written), &waiting);
-    for call in want.bytes() {
-        let holds = if call.to_ascii_lowercase() == b'r' {
-            reader.read(&mut [0; 8]).is_ok()
-        } else {
-            writer.write(b"b").is_ok()
-        };
-        assert_eq!(rt; holds, call.is_ascii_lowercase(), "{name}, {call}");
-    }
+    want.bytes()
+        .all(|call| is_so(&mut reader, &mut writer, call))
 }
 
-// The patience may be another.
-#[test]
-fn of_two_seconds(rt: HostRuntime) -> Result<(), Fail> {
-    let clock = HandClock::new();
-    let waiting = Cell::new(Waiting::of_seconds(2));
-    let script = [ScriptStep::Moves(500, "a")];
-    let mut client = ClientStream::new(&clock, Scripted::new(&clock, &script), &waiting);
-    assert_eq!(rt; reads_of(&mut client), 4);
-    assert_eq!(rt; clock.milliseconds(), 2_000);
-    Ok(())
+// Whether this call succeeds, or fails, as its letter says.
+fn is_so<R: Read, W: Write>(reader: &mut R, writer: &mut W, call: u8) -> bool {
+    match call {
+        b'r' => reader.read(&mut [0; 8]).is_ok(),
+        b'R' => reader.read(&mut [0; 8]).is_err(),
+        b'w' => writer.write(b"b").is_ok(),
+        _ => writer.write(b"b").is_err(),
+    }
 }

@@ -1,6 +1,7 @@
 //! How long the gate fetches for lines sent ahead, and which lines are read together.
 //! docs/crawlgate.1.md, `--ahead`.
 
+use super::demand;
 use super::scripted::{HandClock, ScriptStep, Scripted};
 use client_connections::{AtHand, ClientStream, FetchedAhead, LinesInTurn, RepliesInTurn, Waiting};
 use http_client::Waits;
@@ -8,7 +9,6 @@ use std::alloc::Global;
 use std::cell::Cell;
 use std::io;
 use std::io::{Read, Write};
-use std::process::Abort;
 use std::test::Fail;
 use std::time::{Clock, Duration};
 
@@ -93,45 +93,77 @@ const TURNS: [(&str, &str, &str); 10] = [
 
 #[test]
 fn turns(rt: HostRuntime) -> Result<(), Fail> {
-    for (name, brought, calls) in TURNS {
-        check_turns(&rt, rt.alloc(), name, brought, calls)?;
+    check_turns(rt.alloc(), &TURNS)
+}
+
+fn check_turns(alloc: Global, rows: &[(&str, &'static str, &str)]) -> Result<(), Fail> {
+    for (name, brought, calls) in rows {
+        demand(are_in_turn(alloc, brought, calls), name)?;
     }
     Ok(())
 }
 
-fn check_turns(
-    rt: &impl Abort,
-    alloc: Global,
-    name: &str,
-    brought: &'static str,
-    calls: &str,
-) -> Result<(), Fail> {
+fn are_in_turn(alloc: Global, brought: &'static str, calls: &str) -> bool {
     let (clock, at_hand) = (HandClock::new(), Cell::new(false));
     let waiting = Cell::new(Waiting::of_seconds(PATIENCE));
     let turn = Cell::new(FetchedAhead::new(Duration::from_secs(AHEAD)));
     let script = [ScriptStep::Moves(0, brought)];
-    let watched = || Watched {
-        script: Scripted::new(&clock, &script),
-        at_hand: &at_hand,
-    };
-    let read = ClientStream::new(&clock, watched(), &waiting);
-    let mut lines = LinesInTurn::new(alloc, read, &turn)?;
-    let mut replies = RepliesInTurn::new(ClientStream::new(&clock, watched(), &waiting), &turn);
+    let read = ClientStream::new(&clock, client_of(&clock, &script, &at_hand), &waiting);
+    let written = ClientStream::new(&clock, client_of(&clock, &script, &at_hand), &waiting);
+    match LinesInTurn::new(alloc, read, &turn) {
+        Ok(mut lines) => {
+            let mut replies = RepliesInTurn::new(written, &turn);
+            are_so(&mut lines, &mut replies, &clock, &at_hand, calls)
+        }
+        Err(_) => false,
+    }
+}
+
+fn client_of<'a>(
+    clock: &'a HandClock,
+    script: &'a [ScriptStep],
+    at_hand: &'a Cell<bool>,
+) -> Watched<'a> {
+    Watched {
+        script: Scripted::new(clock, script),
+        at_hand,
+    }
+}
+
+fn are_so<L: Read, W: Write>(
+    lines: &mut L,
+    replies: &mut W,
+    clock: &HandClock,
+    at_hand: &Cell<bool>,
+    calls: &str,
+) -> bool {
     for call in calls.bytes() {
-        match call {
-            b'+' | b'-' => at_hand.set(call == b'+'),
-            b'1'..=b'9' => clock.sleep(Duration::from_secs(u64::from(call - b'0'))),
-            b'r' | b'R' => {
-                let holds = lines.read(&mut [0; 8]).is_ok();
-                assert_eq!(rt; holds, call == b'r', "{name}");
-            }
-            _ => {
-                let holds = replies.write(b"b").is_ok();
-                assert_eq!(rt; holds, call == b'w', "{name}");
-            }
+        if !is_so(lines, replies, clock, at_hand, call) {
+            return false;
         }
     }
-    Ok(())
+    true
+}
+
+fn is_so<L: Read, W: Write>(
+    lines: &mut L,
+    replies: &mut W,
+    clock: &HandClock,
+    at_hand: &Cell<bool>,
+    call: u8,
+) -> bool {
+    match call {
+        b'+' | b'-' => {
+            at_hand.set(call == b'+');
+            true
+        }
+        b'1'..=b'9' => {
+            clock.sleep(Duration::from_secs(u64::from(call - b'0')));
+            true
+        }
+        b'r' | b'R' => lines.read(&mut [0; 8]).is_ok() == (call == b'r'),
+        _ => replies.write(b"b").is_ok() == (call == b'w'),
+    }
 }
 
 // A name, what the connection brings at once, the octets of a read, and those that each read returns.
@@ -146,32 +178,34 @@ const LINES: [(&str, &str, usize, &[usize]); 6] = [
 
 #[test]
 fn together(rt: HostRuntime) -> Result<(), Fail> {
-    for (name, brought, room, counts) in LINES {
-        check_lines(&rt, rt.alloc(), name, brought, room, counts)?;
+    check_lines(rt.alloc(), &LINES)
+}
+
+fn check_lines(alloc: Global, rows: &[(&str, &'static str, usize, &[usize])]) -> Result<(), Fail> {
+    for (name, brought, room, counts) in rows {
+        demand(come_together(alloc, brought, *room, counts), name)?;
     }
     Ok(())
 }
 
-fn check_lines(
-    rt: &impl Abort,
-    alloc: Global,
-    name: &str,
-    brought: &'static str,
-    room: usize,
-    counts: &[usize],
-) -> Result<(), Fail> {
+fn come_together(alloc: Global, brought: &'static str, room: usize, counts: &[usize]) -> bool {
     let (clock, at_hand) = (HandClock::new(), Cell::new(true));
     let waiting = Cell::new(Waiting::of_seconds(PATIENCE));
     let turn = Cell::new(FetchedAhead::new(Duration::from_secs(AHEAD)));
     let script = [ScriptStep::Moves(0, brought)];
-    let watched = Watched {
-        script: Scripted::new(&clock, &script),
-        at_hand: &at_hand,
-    };
-    let read = ClientStream::new(&clock, watched, &waiting);
-    let mut lines = LinesInTurn::new(alloc, read, &turn)?;
-    for count in counts {
-        assert_eq!(rt; lines.read(&mut [0; 8][..room.min(8)])?, *count, "{name}");
+    let read = ClientStream::new(&clock, client_of(&clock, &script, &at_hand), &waiting);
+    match LinesInTurn::new(alloc, read, &turn) {
+        Ok(mut lines) => are_read(&mut lines, room, counts),
+        Err(_) => false,
     }
-    Ok(())
+}
+
+fn are_read<L: Read>(lines: &mut L, room: usize, counts: &[usize]) -> bool {
+    for count in counts {
+        match lines.read(&mut [0; 8][..room.min(8)]) {
+            Ok(read) if read == *count => {}
+            _ => return false,
+        }
+    }
+    true
 }

@@ -5,8 +5,7 @@ ghost use Rattle.gate_lock.specs.Desks.{HasOut, KeepsOut, out_of};
 
 use super::gates::PAGE;
 use authority_cache::{LIFE, TimedAnswer};
-use gate_core::{AskRefusal, BeginRefusal, State, SweepRefusal};
-use gate_history::Cause;
+use gate_core::{AskRefusal, BeginRefusal};
 use gate_lock::{Desk, DeskAsk, DesksFull, Gate, GateLock, Permit, Receipts, RobotsTurn};
 use gate_settlement::{SettleFault, Settled, settle};
 use path_normal::{Authority, PageUrl};
@@ -23,26 +22,27 @@ pub(super) enum CallForm {
     Held,
 }
 
-// Begins a turn of the authority if possible, brings that there is no robots.txt, and returns the turn's
-// number.
-pub(super) fn fetch<G: Gate, R: Wait>(
+// Begins a turn of the authority if possible, and brings that there is no robots.txt.
+fn fetch<G: Gate, R: Wait>(
     rt: &R,
     desk: &mut Desk<'_, G>,
     form: CallForm,
     site: &Authority,
     moment: u64,
-) -> Result<u64, BeginRefusal>
-    ensures no { desk.new.no ≡ desk.old.no }
+) -> bool
     ensures out { KeepsOut desk.old desk.new }
 {
-    let turn = begin(rt, desk, form, site, moment)?;
-    let number = turn.number().number();
-    let open = TimedAnswer::new(Answer::Open(Opening::Unavailable), LIFE);
-    desk.arrive(rt, turn, open, moment);
-    Ok(number)
+    match begin(rt, desk, form, site, moment) {
+        Ok(turn) => {
+            let open = TimedAnswer::new(Answer::Open(Opening::Unavailable), LIFE);
+            desk.arrive(rt, turn, open, moment);
+            true
+        }
+        Err(_) => false,
+    }
 }
 
-pub(super) fn begin<G: Gate, R: Wait>(
+fn begin<G: Gate, R: Wait>(
     rt: &R,
     desk: &mut Desk<'_, G>,
     form: CallForm,
@@ -63,7 +63,7 @@ pub(super) fn begin<G: Gate, R: Wait>(
 }
 
 // Asks for a page with foobot at 110.
-pub(super) fn granted<G: Gate, R: Wait>(
+fn granted<G: Gate, R: Wait>(
     rt: &R,
     alloc: Global,
     desk: &mut Desk<'_, G>,
@@ -80,7 +80,7 @@ pub(super) fn granted<G: Gate, R: Wait>(
     asked(rt, alloc, desk, form, token, url).ok()
 }
 
-pub(super) fn asked<G: Gate, R: Wait>(
+fn asked<G: Gate, R: Wait>(
     rt: &R,
     alloc: Global,
     desk: &mut Desk<'_, G>,
@@ -123,10 +123,13 @@ fn bring_for<G: Gate, R: Wait>(
     all: &mut Vec<Receipts<G>>,
 ) -> Result<(), Fail> {
     let mut desk = gate.desk(rt, alloc)?;
-    let turn = fetch(rt, &mut desk, form, site, 100);
+    let is_brought = fetch(rt, &mut desk, form, site, 100);
     all.push(desk.close())?;
-    turn?;
-    Ok(())
+    if is_brought {
+        Ok(())
+    } else {
+        Err(Fail::new("no turn"))
+    }
 }
 
 // The settlement before and after a permit is given back.
@@ -170,7 +173,7 @@ fn settlements<G: Gate, R: Wait>(
 }
 
 // A round of an allowed fetch: whether each step is.
-pub(super) fn round<G: Gate, R: Wait>(rt: &R, alloc: Global, desk: &mut Desk<'_, G>) -> bool
+fn round<G: Gate, R: Wait>(rt: &R, alloc: Global, desk: &mut Desk<'_, G>) -> bool
     ensures no { desk.new.no ≡ desk.old.no }
     ensures out { KeepsOut desk.old desk.new }
 {
@@ -204,73 +207,4 @@ pub(super) fn worked<G: Gate, R: Wait>(
     let mut desk = gate.desk(rt, alloc)?;
     rounds(rt, alloc, &mut desk);
     Ok(desk.close())
-}
-
-pub(super) fn sweep<G: Gate, R: Wait>(
-    rt: &R,
-    desk: &mut Desk<'_, G>,
-    form: CallForm,
-    moment: u64,
-) -> Result<u64, SweepRefusal>
-    ensures out { KeepsOut desk.old desk.new }
-{
-    match form {
-        CallForm::Plain => desk.sweep(rt, moment),
-        CallForm::Held => {
-            let mut held = desk.lend(rt);
-            desk.sweep_in(&mut held, moment)
-        }
-    }
-}
-
-pub(super) fn state<G: Gate, R: Wait>(
-    rt: &R,
-    desk: &mut Desk<'_, G>,
-    form: CallForm,
-    name: &str,
-    moment: u64,
-) -> State
-    ensures no { desk.new.no ≡ desk.old.no }
-    ensures out { KeepsOut desk.old desk.new }
-{
-    match form {
-        CallForm::Plain => desk.state_of(rt, name, moment),
-        CallForm::Held => {
-            let mut held = desk.lend(rt);
-            desk.state_in(&mut held, name, moment)
-        }
-    }
-}
-
-// Why foobot's ask for the page is denied, if so; a permit is given back.
-pub(super) fn denial<G: Gate, R: Wait>(
-    rt: &R,
-    alloc: Global,
-    desk: &mut Desk<'_, G>,
-    moment: u64,
-) -> Result<Option<Cause>, Fail>
-    ensures out { KeepsOut desk.old desk.new }
-{
-    let token = Token::new(alloc, b"foobot")?;
-    let url = PageUrl::parse(alloc, PAGE)?;
-    Ok(denied(rt, desk, token, url, moment))
-}
-
-fn denied<G: Gate, R: Wait>(
-    rt: &R,
-    desk: &mut Desk<'_, G>,
-    token: Token,
-    url: PageUrl,
-    moment: u64,
-) -> Option<Cause>
-    ensures out { KeepsOut desk.old desk.new }
-{
-    match desk.ask(rt, token, url, moment) {
-        Ok(permit) => {
-            desk.back(rt, permit);
-            None
-        }
-        Err(AskRefusal::Denied(denial)) => Some(denial.cause),
-        Err(_) => None,
-    }
 }

@@ -39,8 +39,9 @@ pub(super) fn book(
     Book::new(alloc, Config { limits, keys })
 }
 
-// Settlements with a permit outstanding, without the last desk's receipts, and with all.
-type Settlements = [Result<Settled, SettleFault>; 3];
+// What a gate of two desks shows: its settlements with a permit outstanding, without the last desk's receipts, and
+// with all; and whether the marks of both desks, and their receipts, are the entries of an ask for the page.
+type Shown = ([Result<Settled, SettleFault>; 3], [bool; 2]);
 
 // Settles a gate twice too early, and then by both desks' receipts.
 #[derive(Drop)]
@@ -48,24 +49,16 @@ struct SettleRow<'r, R: Wait> {
     rt: &'r R,
     alloc: Global,
     form: CallForm,
+    page: &'r str,
 }
 
 impl<R: Wait> Visit for SettleRow<'_, R> {
-    type Output = Result<Settlements, Fail>;
+    type Output = Result<Shown, Fail>;
 
     fn visit<G: Gate>(self, gate: &GateLock<G>) -> Self::Output {
-        settle_both(self.rt, self.alloc, gate, self.form)
+        let mut all = Vec::new(self.alloc);
+        settle_with(self.rt, self.alloc, gate, self.form, self.page, &mut all)
     }
-}
-
-fn settle_both<G: Gate, R: Wait>(
-    rt: &R,
-    alloc: Global,
-    gate: &GateLock<G>,
-    form: CallForm,
-) -> Result<Settlements, Fail> {
-    let mut all = Vec::new(alloc);
-    settle_with(rt, alloc, gate, form, &mut all)
 }
 
 fn settle_with<G: Gate, R: Wait>(
@@ -73,12 +66,13 @@ fn settle_with<G: Gate, R: Wait>(
     alloc: Global,
     gate: &GateLock<G>,
     form: CallForm,
+    page: &str,
     all: &mut Vec<Receipts<G>>,
-) -> Result<Settlements, Fail> {
+) -> Result<Shown, Fail> {
     bring(rt, alloc, gate, form, all)?;
-    let [before, after] = give_back(rt, alloc, gate, form, PAGE, all)?;
+    let [before, after] = give_back(rt, alloc, gate, form, page, all)?;
     let both = settle(rt, alloc, gate, all.as_slice());
-    Ok([before, after, both])
+    Ok(([before, after, both], are_fit(alloc, all.as_slice())?))
 }
 
 fn begun(alloc: Global) -> Result<Entry, Fail> {
@@ -111,7 +105,7 @@ fn granted(alloc: Global, page: &str, number: u64) -> Result<Entry, Fail> {
 
 // The entries of a gate at which one desk brings an answer, and another asks for the page and gives its
 // permit back.
-pub(super) fn add_entries(
+fn add_entries(
     alloc: Global,
     page: &str,
     number: u64,
@@ -151,73 +145,50 @@ fn are_fit_with<G: Gate>(
     Ok([of_marks, of_receipts])
 }
 
-// The marks to compare with a gate's own entries: of an ask for this page.
-#[derive(Drop)]
-struct FitRow<'r, R: Wait> {
-    rt: &'r R,
-    alloc: Global,
-    page: &'r str,
-}
-
-impl<R: Wait> Visit for FitRow<'_, R> {
-    type Output = Result<[bool; 2], Fail>;
-
-    fn visit<G: Gate>(self, gate: &GateLock<G>) -> Self::Output {
-        let mut all = Vec::new(self.alloc);
-        fit_those(self.rt, self.alloc, gate, self.page, &mut all)
-    }
-}
-
-fn fit_those<G: Gate, R: Wait>(
-    rt: &R,
-    alloc: Global,
-    gate: &GateLock<G>,
-    page: &str,
-    all: &mut Vec<Receipts<G>>,
-) -> Result<[bool; 2], Fail> {
-    bring(rt, alloc, gate, CallForm::Plain, all)?;
-    let _early = give_back(rt, alloc, gate, CallForm::Plain, page, all)?;
-    are_fit(alloc, all.as_slice())
-}
+// The form of the calls, the page that is asked for, and whether the marks are the entries of an ask for the one page.
+const ROWS: [(CallForm, &str, bool); 3] = [
+    (CallForm::Plain, PAGE, true),
+    (CallForm::Held, PAGE, true),
+    (CallForm::Plain, OTHER_PAGE, false),
+];
 
 #[test]
 fn a_gate_is_settled_by_all_receipts(rt: HostRuntime) -> Result<(), Fail> {
     let keys = RandomState::new(&rt)?;
-    let want = [
-        Err(SettleFault::StillOut),
-        Err(SettleFault::Mismatch),
-        Ok(Settled {
-            events: 4,
-            starts: 0,
-        }),
-    ];
-    for form in [CallForm::Plain, CallForm::Held] {
-        let row = SettleRow {
-            rt: &rt,
-            alloc: rt.alloc(),
-            form,
-        };
-        let got = with_gate(book(rt.alloc(), keys, 1_024, 65_536)?, row)?;
-        assert_eq!(rt; got, want, "settled");
+    for (form, page, fit) in &ROWS {
+        let (settled, marks) = shown(&rt, rt.alloc(), keys, *form, page)?;
+        if !is_settled(settled) || marks != [*fit, *fit] {
+            return Err(Fail::new(page));
+        }
     }
     Ok(())
 }
 
-#[test]
-fn marks_fit_the_entries_of_their_own_gate(rt: HostRuntime) -> Result<(), Fail> {
-    let keys = RandomState::new(&rt)?;
-    for (page, want) in [(PAGE, true), (OTHER_PAGE, false)] {
-        let row = FitRow {
-            rt: &rt,
-            alloc: rt.alloc(),
-            page,
-        };
-        let got = with_gate(book(rt.alloc(), keys, 1_024, 65_536)?, row)?;
-        assert_eq!(rt;
-            got,
-            [want, want],
-            "marks of a gate where the page was asked for"
-        );
-    }
-    Ok(())
+fn shown<R: Wait>(
+    rt: &R,
+    alloc: Global,
+    keys: RandomState,
+    form: CallForm,
+    page: &str,
+) -> Result<Shown, Fail> {
+    let row = SettleRow {
+        rt,
+        alloc,
+        form,
+        page,
+    };
+    with_gate(book(alloc, keys, 1_024, 65_536)?, row)
+}
+
+fn is_settled(settled: [Result<Settled, SettleFault>; 3]) -> bool {
+    let all = Settled {
+        events: 4,
+        starts: 0,
+    };
+    settled
+        == [
+            Err(SettleFault::StillOut),
+            Err(SettleFault::Mismatch),
+            Ok(all),
+        ]
 }

@@ -178,8 +178,9 @@ fn the_answer_under_the_lock_decides(rt: HostRuntime) -> Result<(), Fail> {
             after: *after,
             moment: *moment,
         };
-        let got = with_gate(book(rt.alloc(), keys, 1_024, 65_536)?, row)?;
-        assert_eq!(rt; got, *want, "{name}");
+        if with_gate(book(rt.alloc(), keys, 1_024, 65_536)?, row)? != *want {
+            return Err(Fail::new(name));
+        }
     }
     Ok(())
 }

@@ -3,10 +3,14 @@
 
 use journal_tape::{Journal, MemoryTape, Tape, whole_len};
 use std::alloc::Global;
-use std::process::Abort;
 use std::test::Fail;
 
 const LINES: [&[u8]; 4] = [b"V 2\n", b"B 1 a.example 1\n", b"\n", b"K 1\n"];
+
+const TEXT: &[u8] = b"V 2\nB 1 a.example 1\n\nK 1\n";
+
+// Where the text of no line, of one, and so on ends.
+const ENDS: [usize; 5] = [0, 4, 20, 21, 25];
 
 // The most tape calls for the lines, at three octets a call.
 const CALLS: u64 = 20;
@@ -15,10 +19,9 @@ const CALLS: u64 = 20;
 fn what_was_told_is_left(rt: HostRuntime) -> Result<(), Fail> {
     for fails_at in 0..CALLS {
         for more in 0..32 {
-            assert!(rt;
-                leaves_what_was_told(rt.alloc(), Some(fails_at), more)?,
-                "{fails_at} {more}"
-            );
+            if !leaves_what_was_told(rt.alloc(), fails_at, more) {
+                return Err(Fail::new(format_args!("{fails_at} {more}")));
+            }
         }
     }
     Ok(())
@@ -26,26 +29,30 @@ fn what_was_told_is_left(rt: HostRuntime) -> Result<(), Fail> {
 
 #[test]
 fn all_is_told_where_nothing_fails(rt: HostRuntime) -> Result<(), Fail> {
-    let mut journal = Journal::new(MemoryTape::new(Vec::new(rt.alloc()), 3, None));
-    assert_eq!(rt; told_lines(&mut journal), LINES.len());
-    assert_eq!(rt;
-        journal.tape().left(0),
-        text_of(rt.alloc(), LINES.len())?.as_slice()
-    );
-    Ok(())
+    if tells_all(rt.alloc()) {
+        Ok(())
+    } else {
+        Err(Fail::new("the lines"))
+    }
 }
 
 // Whether a crash after the first fault leaves the told lines, and then a prefix of lines.
-fn leaves_what_was_told(alloc: Global, fails_at: Option<u64>, more: usize) -> Result<bool, Fail> {
-    let mut journal = Journal::new(MemoryTape::new(Vec::new(alloc), 3, fails_at));
+fn leaves_what_was_told(alloc: Global, fails_at: u64, more: usize) -> bool {
+    let mut journal = Journal::new(MemoryTape::new(Vec::new(alloc), 3, Some(fails_at)));
     let told = told_lines(&mut journal);
-    let left = journal.tape().left(more);
+    has_told(journal.tape().left(more), told) && (told == LINES.len() || journal.has_failed())
+}
+
+fn tells_all(alloc: Global) -> bool {
+    let mut journal = Journal::new(MemoryTape::new(Vec::new(alloc), 3, None));
+    told_lines(&mut journal) == LINES.len() && journal.tape().left(0) == TEXT
+}
+
+// Whether the whole lines of this are so many lines or more.
+fn has_told(left: &[u8], told: usize) -> bool {
     let whole = &left[..whole_len(left)];
-    let mut found = false;
-    for count in told..=LINES.len() {
-        found = found || whole == text_of(alloc, count)?.as_slice();
-    }
-    Ok(found && (told == LINES.len() || journal.has_failed()))
+    let is_end = ENDS.iter().skip(told).any(|end| *end == whole.len());
+    is_end && TEXT.starts_with(whole)
 }
 
 // Commits the lines one by one, even after a fault, and counts the Ok ones.
@@ -57,12 +64,4 @@ fn told_lines(journal: &mut Journal<MemoryTape>) -> usize {
         }
     }
     told
-}
-
-fn text_of(alloc: Global, count: usize) -> Result<Vec<u8>, Fail> {
-    let mut text = Vec::new(alloc);
-    for line in LINES.iter().take(count) {
-        text.extend_from_slice(line)?;
-    }
-    Ok(text)
 }

@@ -1,89 +1,77 @@
 //! A session whose read or write fails, at every call in turn.
 
-use super::{demand, new_writer, session};
-use command_lines::SessionFault;
+use super::{demand, new_book, new_writer, reader_of};
+use command_lines::{SessionFault, replay};
 use counted_io::FailAt;
-use std::alloc::Global;
 use std::test::Fail;
 
-const INPUT: &str = "\
+const INPUT: &[u8] = b"\
 100 BEGIN a.example
 105 ARRIVE a.example 1 404 -
 110 ASK foobot http://a.example/x
 120 START 65536 foobot http://a.example/x
 ";
 
-const REPLIES: [&str; 4] = [
-    "TURN a.example 1\n",
-    "TAKEN a.example open\n",
-    "PERMIT 65536\n",
-    "GO 65536 open\n",
-];
-
-fn replies(alloc: Global, lines: usize) -> Result<Vec<u8>, Fail> {
-    let mut text = Vec::new(alloc);
-    for reply in REPLIES.iter().take(lines) {
-        text.extend_from_slice(reply.as_bytes())?;
-    }
-    Ok(text)
-}
+const REPLIES: &[u8] = b"\
+TURN a.example 1
+TAKEN a.example open
+PERMIT 65536
+GO 65536 open
+";
 
 #[test]
 fn a_read_fails(rt: HostRuntime) -> Result<(), Fail> {
     for octets in 0..INPUT.len() {
-        let input = INPUT.as_bytes().to_vec(rt.alloc())?;
-        check_read(&rt, &mut FailAt::new(input, 1, Some(octets as u64)), octets)?;
+        demand(is_told_of_read(&rt, octets)?, "a read", octets)?;
     }
     Ok(())
 }
 
-fn check_read(rt: &HostRuntime, input: &mut FailAt, octets: usize) -> Result<(), Fail> {
+fn is_told_of_read(rt: &HostRuntime, octets: usize) -> Result<bool, Fail> {
+    let mut input = reader_of(rt.alloc(), INPUT, 1, Some(octets as u64))?;
     let mut output = new_writer(rt.alloc());
-    let (end, entries) = session(rt, input, &mut output)?;
-    let lines = INPUT.bytes().take(octets).filter(|b| *b == b'\n').count();
-    check_end((end, entries), (Err(SessionFault::Read), lines), octets)?;
-    check_replies(rt, output.bytes(), lines, octets)
+    let ended = session(rt, &mut input, &mut output)?;
+    let lines = lines_of(INPUT, octets);
+    Ok(ended == (Err(SessionFault::Read), lines) && has_lines(output.bytes(), lines))
 }
 
-fn check_replies(rt: &HostRuntime, written: &[u8], lines: usize, at: usize) -> Result<(), Fail> {
-    let want = replies(rt.alloc(), lines)?;
-    demand(written == want.as_slice(), "replies", at)
+// Whether these are so many replies.
+fn has_lines(written: &[u8], lines: usize) -> bool {
+    let is_whole = written.is_empty() || written.ends_with(b"\n");
+    is_whole && REPLIES.starts_with(written) && lines_of(written, written.len()) == lines
 }
 
-// Checks the end of a session and its number of entries.
-fn check_end(
-    given: (Result<(), SessionFault>, usize),
-    want: (Result<(), SessionFault>, usize),
-    at: usize,
-) -> Result<(), Fail> {
-    demand(given == want, "end and entries", at)
+// How many lines end within so many octets of a text.
+fn lines_of(text: &[u8], octets: usize) -> usize {
+    text.iter()
+        .take(octets)
+        .filter(|octet| **octet == b'\n')
+        .count()
+}
+
+// A session over a new book: its end, and the entries of the history.
+fn session(
+    rt: &HostRuntime,
+    input: &mut FailAt,
+    output: &mut FailAt,
+) -> Result<(Result<(), SessionFault>, usize), Fail> {
+    let mut book = new_book(rt)?;
+    let end = replay(rt.alloc(), input, output, &mut book);
+    Ok((end, book.history().len()))
 }
 
 #[test]
 fn a_write_fails(rt: HostRuntime) -> Result<(), Fail> {
-    let all = replies(rt.alloc(), REPLIES.len())?;
-    check_writes(&rt, all.as_slice())
-}
-
-fn check_writes(rt: &HostRuntime, all: &[u8]) -> Result<(), Fail> {
-    for call in 0..all.len() {
-        let input = INPUT.as_bytes().to_vec(rt.alloc())?;
-        check_write(rt, &mut FailAt::new(input, 65_536, None), all, call)?;
+    for call in 0..REPLIES.len() {
+        demand(is_told_of_write(&rt, call)?, "a write", call)?;
     }
     Ok(())
 }
 
-fn check_write(rt: &HostRuntime, input: &mut FailAt, all: &[u8], call: usize) -> Result<(), Fail> {
+fn is_told_of_write(rt: &HostRuntime, call: usize) -> Result<bool, Fail> {
+    let mut input = reader_of(rt.alloc(), INPUT, 65_536, None)?;
     let mut output = FailAt::new(Vec::new(rt.alloc()), 1, Some(call as u64));
-    let (end, entries) = session(rt, input, &mut output)?;
-    check_end((end, entries), (Err(SessionFault::Write), 4), call)?;
-    check_front(output.bytes(), all, call)
-}
-
-fn check_front(written: &[u8], all: &[u8], call: usize) -> Result<(), Fail> {
-    demand(
-        all.starts_with(written) && written.len() == call,
-        "replies",
-        call,
-    )
+    let ended = session(rt, &mut input, &mut output)?;
+    let is_front = REPLIES.starts_with(output.bytes()) && output.bytes().len() == call;
+    Ok(is_front && ended == (Err(SessionFault::Write), 4))
 }

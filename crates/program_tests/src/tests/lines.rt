@@ -19,53 +19,46 @@ fn long_text(rt: &HostRuntime) -> Result<Vec<u8>, Fail> {
 
 #[test]
 fn reads_one_octet_past_the_limit(rt: HostRuntime) -> Result<(), Fail> {
-    let text = long_text(&rt)?;
-    check_long(&rt, &mut FailAt::new(text, 65_536, None))
+    let mut reader = FailAt::new(long_text(&rt)?, 65_536, None);
+    demand(is_read_so_far(&rt, &mut reader), "a text past the limit", 0)
 }
 
-fn check_long(rt: &HostRuntime, reader: &mut FailAt) -> Result<(), Fail> {
+fn is_read_so_far(rt: &HostRuntime, reader: &mut FailAt) -> bool {
     let mut writer = new_writer(rt.alloc());
     let result = lines(rt.alloc(), reader, &mut writer);
-    let is_left = reader.unread() == b"more than is read".as_slice();
-    let is_written = writer.bytes() == b"1 agent all\n2 other\n".as_slice();
-    demand(
-        result == Ok(()) && is_left && is_written,
-        "a text past the limit",
-        0,
-    )
+    result == Ok(())
+        && reader.unread() == b"more than is read".as_slice()
+        && writer.bytes() == b"1 agent all\n2 other\n".as_slice()
 }
 
 #[test]
 fn a_read_fails(rt: HostRuntime) -> Result<(), Fail> {
     // The last read finds the end.
     for octets in 0..TEXT.len() + 1 {
-        let text = TEXT.to_vec(rt.alloc())?;
-        check_read(&rt, &mut FailAt::new(text, 1, Some(octets as u64)), octets)?;
+        let mut reader = reader_of(rt.alloc(), TEXT, 1, Some(octets as u64))?;
+        demand(is_told_of_read(&rt, &mut reader), "a read", octets)?;
     }
     Ok(())
 }
 
-fn check_read(rt: &HostRuntime, reader: &mut FailAt, octets: usize) -> Result<(), Fail> {
+fn is_told_of_read(rt: &HostRuntime, reader: &mut FailAt) -> bool {
     let mut writer = new_writer(rt.alloc());
     let result = lines(rt.alloc(), reader, &mut writer);
-    let is_told = result == Err(TextFault::Read) && reader.failures() == 1;
-    demand(is_told && writer.bytes().is_empty(), "a read", octets)
+    result == Err(TextFault::Read) && reader.failures() == 1 && writer.bytes().is_empty()
 }
 
 #[test]
 fn a_write_fails(rt: HostRuntime) -> Result<(), Fail> {
     for call in 0..OUTPUT.len() {
-        let mut reader = reader_of(rt.alloc(), TEXT, 65_536)?;
-        check_write(&rt, &mut reader, call)?;
+        let mut reader = reader_of(rt.alloc(), TEXT, 65_536, None)?;
+        demand(is_told_of_write(&rt, &mut reader, call), "a write", call)?;
     }
     Ok(())
 }
 
-fn check_write(rt: &HostRuntime, reader: &mut FailAt, call: usize) -> Result<(), Fail> {
+fn is_told_of_write(rt: &HostRuntime, reader: &mut FailAt, call: usize) -> bool {
     let mut writer = FailAt::new(Vec::new(rt.alloc()), 1, Some(call as u64));
     let result = lines(rt.alloc(), reader, &mut writer);
     let is_told = result == Err(TextFault::Write) && writer.failures() == 1;
-    let written = writer.bytes();
-    let is_front = OUTPUT.starts_with(written) && written.len() == call;
-    demand(is_told && is_front, "a write", call)
+    is_told && OUTPUT.starts_with(writer.bytes()) && writer.bytes().len() == call
 }

@@ -1,14 +1,13 @@
-//! Sessions at a desk whose read or write fails, at each place in turn: nothing stays out, and after a
-//! failed
+//! Sessions at a desk whose read or write fails, at each place in turn: nothing stays out, and after a failed
 //! write no line is answered.
 
-use super::{Ended, session_at};
-use command_server::SessionFault;
+use super::{PAGES, demand};
+use command_server::{DeskKeeper, SessionFault, serve};
 use counted_io::FailAt;
 use gate_core::Limits;
 use gate_lock::{Gate, GateLock};
-use gate_settlement::{Settled, Visit, with_gate};
-use scripted_sites::new_book;
+use gate_settlement::{SettleFault, Settled, Visit, settle, with_gate};
+use scripted_sites::{FixedClock, ScriptedSites, new_book};
 use std::alloc::Global;
 use std::random::RandomSource;
 use std::sync::Wait;
@@ -44,6 +43,26 @@ impl<R: Wait> Visit for FaultRow<'_, R> {
     }
 }
 
+type Ended = (Result<(), SessionFault>, Result<Settled, SettleFault>);
+
+fn session_at<G: Gate, R: Wait>(
+    rt: &R,
+    alloc: Global,
+    gate: &GateLock<G>,
+    reader: &mut FailAt,
+    writer: &mut FailAt,
+) -> Result<Ended, Fail> {
+    let sites = ScriptedSites {
+        alloc,
+        pages: &PAGES,
+    };
+    let mut all = Vec::with_capacity(alloc, 1)?;
+    let mut keeper = DeskKeeper::open(rt, alloc, gate, &sites)?;
+    let end = serve(alloc, reader, writer, &mut keeper, &FixedClock(110));
+    all.push_reserved(keeper.close());
+    Ok((end, settle(rt, alloc, gate, all.as_slice())))
+}
+
 fn ended<R: Wait + RandomSource>(
     rt: &R,
     alloc: Global,
@@ -60,23 +79,16 @@ fn ended<R: Wait + RandomSource>(
     with_gate(book, row)
 }
 
-fn check(ended: Ended, want: SessionFault, at: u64) -> Result<(), Fail> {
-    let (end, settled) = ended;
-    if end == Err(want) && settled.is_ok() {
-        Ok(())
-    } else {
-        Err(Fail::new(format_args!("{want:?}, at {at}: {end:?}, {settled:?}")))
-    }
+// Whether a session ended by this fault, and left nothing out.
+fn has_ended(ended: Ended, want: SessionFault) -> bool {
+    ended.0 == Err(want) && ended.1.is_ok()
 }
 
 #[test]
 fn reads_that_fail(rt: HostRuntime) -> Result<(), Fail> {
     for at in 0..LINES.len() as u64 {
-        check(
-            ended(&rt, rt.alloc(), Some(at), None)?,
-            SessionFault::Read,
-            at,
-        )?;
+        let ended = ended(&rt, rt.alloc(), Some(at), None)?;
+        demand(has_ended(ended, SessionFault::Read), "a read", at)?;
     }
     Ok(())
 }
@@ -102,11 +114,8 @@ fn settled_to(written: u64) -> Settled {
 fn writes_that_fail(rt: HostRuntime) -> Result<(), Fail> {
     for at in 0..REPLIES {
         let ended = ended(&rt, rt.alloc(), None, Some(at))?;
-        let (_, settled) = ended;
-        if settled != Ok(settled_to(at)) {
-            return Err(Fail::new(format_args!("at {at}: {settled:?}")));
-        }
-        check(ended, SessionFault::Write, at)?;
+        let holds = has_ended(ended, SessionFault::Write) && ended.1 == Ok(settled_to(at));
+        demand(holds, "a write", at)?;
     }
     Ok(())
 }

@@ -15,6 +15,7 @@ use std::alloc::Global;
 use std::io::{Read, Write};
 use std::marker::Brand;
 use std::net::{Ipv4Addr, Net, SocketAddr, TcpStream};
+use std::random::RandomSource;
 use std::sync::Wait;
 use std::sync::atomic::{AtomicU64, Ordering};
 use std::test::Fail;
@@ -107,15 +108,42 @@ fn connect<R: Net<Stream = TcpStream>>(rt: &R, port: u16) -> Result<TcpStream, F
 #[test]
 fn a_sweep_in_time(rt: HostRuntime) -> Result<(), Fail> {
     let listener = Listener::bind(&rt, 0)?;
+    sweeps(&rt, rt.alloc(), &listener)
+}
+
+fn sweeps<R>(rt: &R, alloc: Global, listener: &Listener) -> Result<(), Fail>
+where
+    R: Net<Stream = TcpStream> + RandomSource + Threads + Wait + time::Clock + Sync,
+{
     let port = listener.port()?;
-    let _silent = connect(&rt, port)?;
-    let mut client = connect(&rt, port)?;
+    let _silent = connect(rt, port)?;
+    let mut client = connect(rt, port)?;
+    sweeps_between(rt, alloc, listener, &mut client)
+}
+
+fn sweeps_between<R: RandomSource + Threads + Wait + time::Clock + Sync>(
+    rt: &R,
+    alloc: Global,
+    listener: &Listener,
+    client: &mut TcpStream,
+) -> Result<(), Fail> {
     client.write_all(LINES)?;
-    let book = new_book(&rt, rt.alloc(), Limits::usual())?;
-    let events = serve_two::<Brand, HostRuntime>(&rt, rt.alloc(), &listener, book, Blanks::new())?;
-    let mut replies = Vec::new(rt.alloc());
+    let events = events_of(rt, alloc, listener)?;
+    demand(events > ENTRIES, "sweeps", events)?;
+    is_answered(alloc, client)
+}
+
+fn events_of<R: RandomSource + Threads + Wait + time::Clock + Sync>(
+    rt: &R,
+    alloc: Global,
+    listener: &Listener,
+) -> Result<u64, Fail> {
+    let book = new_book(rt, alloc, Limits::usual())?;
+    serve_two::<Brand, R>(rt, alloc, listener, book, Blanks::new())
+}
+
+fn is_answered(alloc: Global, client: &mut TcpStream) -> Result<(), Fail> {
+    let mut replies = Vec::new(alloc);
     client.read_to_end(&mut replies)?;
-    demand(replies.as_slice(), REPLIES, "replies")?;
-    assert!(rt; events > ENTRIES, "sweeps");
-    Ok(())
+    demand(replies.as_slice() == REPLIES.as_bytes(), "replies", 0)
 }

@@ -1,5 +1,6 @@
 //! Interrupted reads and writes, and those out of time.
 
+use super::demand;
 use http_client::{Deadline, Failure, TimedStream, Waits};
 use std::io::{ErrorKind, Read, Write};
 use std::sync::atomic::AtomicBool;
@@ -79,58 +80,84 @@ fn stream_of<'a, R: time::Clock>(
     })
 }
 
-fn reads(rt: &impl time::Clock, times: u32, whole: u64) -> io::Result<bool> {
-    let stopped = AtomicBool::new(false);
-    let mut stream = stream_of(rt, times, whole, &stopped)?;
-    Ok(stream.read(&mut [0, 0]).is_ok())
+// Whether a read of such a stream succeeds, and why it failed.
+fn reads(rt: &impl time::Clock, row: &Row) -> io::Result<(bool, Option<Failure>)> {
+    let stopped = AtomicBool::new(row.stopped);
+    let mut stream = stream_of(rt, row.times, row.whole, &stopped)?;
+    let holds = stream.read(&mut [0, 0]).is_ok();
+    Ok((holds, stream.failure))
 }
 
-fn writes(rt: &impl time::Clock, times: u32, whole: u64) -> io::Result<bool> {
-    let stopped = AtomicBool::new(false);
-    let mut stream = stream_of(rt, times, whole, &stopped)?;
-    Ok(stream.write(b"ab").is_ok())
+// The same of a write.
+fn writes(rt: &impl time::Clock, row: &Row) -> io::Result<(bool, Option<Failure>)> {
+    let stopped = AtomicBool::new(row.stopped);
+    let mut stream = stream_of(rt, row.times, row.whole, &stopped)?;
+    let holds = stream.write(b"ab").is_ok();
+    Ok((holds, stream.failure))
 }
+
+struct Row {
+    name: &'static str,
+    times: u32,
+    whole: u64,
+    stopped: bool,
+    holds: bool,
+}
+
+const ROWS: [Row; 6] = [
+    Row {
+        name: "no interruption",
+        times: 0,
+        whole: 60,
+        stopped: false,
+        holds: true,
+    },
+    Row {
+        name: "a few interruptions",
+        times: 3,
+        whole: 60,
+        stopped: false,
+        holds: true,
+    },
+    Row {
+        name: "as many as there may be",
+        times: 999,
+        whole: 60,
+        stopped: false,
+        holds: true,
+    },
+    Row {
+        name: "one more",
+        times: 1_000,
+        whole: 60,
+        stopped: false,
+        holds: false,
+    },
+    Row {
+        name: "a time that is over",
+        times: 0,
+        whole: 0,
+        stopped: false,
+        holds: false,
+    },
+    Row {
+        name: "a stream that is stopped",
+        times: 0,
+        whole: 60,
+        stopped: true,
+        holds: false,
+    },
+];
 
 #[test]
 fn interruptions(rt: HostRuntime) -> Result<(), Fail> {
-    for (times, want) in [(0, true), (3, true), (999, true), (1_000, false)] {
-        assert_eq!(rt; reads(&rt, times, 60)?, want, "after {times} interruptions");
-        assert_eq!(rt;
-            writes(&rt, times, 60)?,
-            want,
-            "after {times} interruptions"
-        );
+    for row in &ROWS {
+        demand(is_so(reads(&rt, row)?, row), row.name)?;
+        demand(is_so(writes(&rt, row)?, row), row.name)?;
     }
     Ok(())
 }
 
-#[test]
-fn a_time_that_is_over(rt: HostRuntime) -> Result<(), Fail> {
-    assert!(rt; !reads(&rt, 0, 0)?);
-    assert!(rt; !writes(&rt, 0, 0)?);
-    Ok(())
-}
-
-// Whether a read of a stopped stream succeeds, and why it failed.
-fn reads_when_stopped(rt: &impl time::Clock) -> io::Result<(bool, Option<Failure>)> {
-    let stopped = AtomicBool::new(true);
-    let mut stream = stream_of(rt, 0, 60, &stopped)?;
-    let reads = stream.read(&mut [0, 0]).is_ok();
-    Ok((reads, stream.failure))
-}
-
-// Whether a write of a stopped stream succeeds, and why it failed.
-fn writes_when_stopped(rt: &impl time::Clock) -> io::Result<(bool, Option<Failure>)> {
-    let stopped = AtomicBool::new(true);
-    let mut stream = stream_of(rt, 0, 60, &stopped)?;
-    let writes = stream.write(b"ab").is_ok();
-    Ok((writes, stream.failure))
-}
-
-#[test]
-fn a_stream_that_is_stopped(rt: HostRuntime) -> Result<(), Fail> {
-    let want = (false, Some(Failure::Stopped));
-    assert_eq!(rt; reads_when_stopped(&rt)?, want);
-    assert_eq!(rt; writes_when_stopped(&rt)?, want);
-    Ok(())
+fn is_so(given: (bool, Option<Failure>), row: &Row) -> bool {
+    given.0 == row.holds && (!row.stopped || given.1 == Some(Failure::Stopped))
 }

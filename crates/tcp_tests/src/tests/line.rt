@@ -1,56 +1,12 @@
-//! Numbers drawn by one or many threads, of one or several sites, and gathered from no, some and all seats.
+//! Numbers drawn in turn, of one or several sites, and gathered from no, some and all seats. Many threads draw in
+//! each shift of the built program.
 
-ghost use Rattle.std.specs.Prelude.{◌≡◌};
+ghost use Rattle.std.specs.Prelude.{◌≡◌, ◌≤◌};
 
+use super::demand;
 use job_line::{Drawn, JobLine, JobSeat};
 use std::alloc::{AllocError, Global};
 use std::test::Fail;
-use std::thread;
-
-// Draws until the line has ended, and once more.
-fn draw_all(line: &JobLine, seat: &mut JobSeat)
-    requires { seat.old.line ≡ line.now }
-    ensures { seat.new.line ≡ seat.old.line }
-{
-    for _ in 0..4097 {
-        if line.draw(seat).is_none() {
-            break;
-        }
-    }
-    line.draw(seat);
-}
-
-// What one seat alone gathers.
-fn gather_one(alloc: Global, line: JobLine, seat: JobSeat) -> Result<Drawn, AllocError>
-    requires { seat.line ≡ line }
-{
-    let mut given = Vec::with_capacity(alloc, 1)?;
-    given.push_reserved(seat);
-    Ok(line.gather(given))
-}
-
-// Whether the seats drew each of 4,096 numbers once.
-fn all_once(alloc: Global, seats: &[JobSeat]) -> Result<bool, AllocError> {
-    let mut times = vec![in alloc; 0u8; 4096]?;
-    for seat in seats {
-        for number in seat.drawn() {
-            if let Some(count) = times.get_mut(*number as usize) {
-                *count = count.saturating_add(1);
-            }
-        }
-    }
-    Ok(times.iter().all(|count| *count == 1))
-}
-
-// Draws at four sites in turn, from the one at the place, until all have ended.
-fn draw_in_turn(line: &JobLine, seat: &mut JobSeat, place: usize)
-    requires { seat.old.line ≡ line.now }
-    ensures { seat.new.line ≡ seat.old.line }
-{
-    for n in 0..12004 {
-        line.draw_at(seat, (n + place % 4) % 4);
-    }
-}
 
 // Whether none of three sites has a job, nor an unknown fourth; asked twice.
 fn finds_nothing(line: &JobLine, seat: &mut JobSeat) -> bool
@@ -67,107 +23,101 @@ fn finds_nothing(line: &JobLine, seat: &mut JobSeat) -> bool
 #[test]
 fn three_jobs_for_two_seats(rt: HostRuntime) -> Result<(), Fail> {
     let (line, mut seats) = JobLine::new(rt.alloc(), 3, 2)?;
-    let mut second = seats.pop().expect(&rt, "two seats");
-    let mut first = seats.pop().expect(&rt, "two seats");
-    assert_eq!(rt; line.draw(&mut first), Some(0));
-    assert_eq!(rt; line.draw(&mut second), Some(1));
-    assert_eq!(rt; line.draw(&mut first), Some(2));
-    assert_eq!(rt; line.draw(&mut first), None);
-    assert_eq!(rt; line.draw(&mut second), None);
-    assert_eq!(rt; line.draw(&mut first), None);
-    assert_eq!(rt; line.draw(&mut second), None);
-    assert_eq!(rt; first.drawn(), [0, 2].as_slice());
-    assert_eq!(rt; second.drawn(), [1].as_slice());
-    Ok(())
+    let (Some(mut second), Some(mut first)) = (seats.pop(), seats.pop()) else {
+        return Err(Fail::new("two seats"));
+    };
+    demand(draw_jobs(&line, &mut first, &mut second), "three jobs")
+}
+
+fn draw_jobs(line: &JobLine, first: &mut JobSeat, second: &mut JobSeat) -> bool
+    requires { (first.old.line ≡ line.now) × (second.old.line ≡ line.now) }
+{
+    line.draw(first) == Some(0)
+        && line.draw(second) == Some(1)
+        && line.draw(first) == Some(2)
+        && line.draw(first).is_none()
+        && line.draw(second).is_none()
+        && line.draw(first).is_none()
+        && line.draw(second).is_none()
+        && first.drawn() == [0, 2].as_slice()
+        && second.drawn() == [1].as_slice()
 }
 
 #[test]
 fn three_sites_for_two_seats(rt: HostRuntime) -> Result<(), Fail> {
     let (line, mut seats) = JobLine::of_sites(rt.alloc(), &[2, 0, 3], 2)?;
-    let mut second = seats.pop().expect(&rt, "two seats");
-    let mut first = seats.pop().expect(&rt, "two seats");
-    assert_eq!(rt; first.sites(), 3);
-    assert_eq!(rt; line.draw_at(&mut first, 2), Some(2));
-    assert_eq!(rt; line.draw_at(&mut second, 2), Some(3));
-    assert_eq!(rt; line.draw_at(&mut second, 0), Some(0));
-    assert_eq!(rt; line.draw_at(&mut first, 2), Some(4));
-    assert_eq!(rt; line.draw_at(&mut first, 1), None);
-    assert_eq!(rt; line.draw_at(&mut first, 0), Some(1));
-    assert!(rt; !first.has_ended());
-    assert!(rt; finds_nothing(&line, &mut first));
-    assert!(rt; first.has_ended() && !second.has_ended());
-    assert!(rt; finds_nothing(&line, &mut second));
-    assert!(rt; second.has_ended());
-    assert_eq!(rt; first.drawn(), [2, 4, 1].as_slice());
-    assert_eq!(rt; second.drawn(), [3, 0].as_slice());
-    Ok(())
+    let (Some(mut second), Some(mut first)) = (seats.pop(), seats.pop()) else {
+        return Err(Fail::new("two seats"));
+    };
+    demand(draw_at_sites(&line, &mut first, &mut second), "three sites")
+}
+
+fn draw_at_sites(line: &JobLine, first: &mut JobSeat, second: &mut JobSeat) -> bool
+    requires { (first.old.line ≡ line.now) × (second.old.line ≡ line.now) }
+{
+    first.sites() == 3
+        && line.draw_at(first, 2) == Some(2)
+        && line.draw_at(second, 2) == Some(3)
+        && line.draw_at(second, 0) == Some(0)
+        && line.draw_at(first, 2) == Some(4)
+        && line.draw_at(first, 1).is_none()
+        && line.draw_at(first, 0) == Some(1)
+        && !first.has_ended()
+        && finds_nothing(line, first)
+        && first.has_ended()
+        && !second.has_ended()
+        && finds_nothing(line, second)
+        && second.has_ended()
+        && first.drawn() == [2, 4, 1].as_slice()
+        && second.drawn() == [3, 0].as_slice()
 }
 
 #[test]
 fn no_sites(rt: HostRuntime) -> Result<(), Fail> {
     let (line, mut seats) = JobLine::of_sites(rt.alloc(), &[], 2)?;
-    let mut seat = seats.pop().expect(&rt, "two seats");
-    assert_eq!(rt; line.draw_at(&mut seat, 0), None);
-    assert!(rt; seat.has_ended());
-    Ok(())
+    let Some(mut seat) = seats.pop() else {
+        return Err(Fail::new("two seats"));
+    };
+    let none = line.draw_at(&mut seat, 0).is_none();
+    demand(none && seat.has_ended(), "no sites")
 }
 
 #[test]
-fn gathers_some(rt: HostRuntime) -> Result<(), Fail> {
-    let (line, mut seats) = JobLine::new(rt.alloc(), 2, 2)?;
-    let mut first = seats.pop().expect(&rt, "two seats");
-    assert_eq!(rt; line.draw(&mut first), Some(0));
-    let drawn = gather_one(rt.alloc(), line, first)?;
-    assert_eq!(rt; drawn.lists.len(), 1);
-    assert_eq!(rt; drawn.lists[0].as_slice(), [0].as_slice());
-    Ok(())
-}
-
-#[test]
-fn gathers_all(rt: HostRuntime) -> Result<(), Fail> {
-    let (line, mut seats) = JobLine::new(rt.alloc(), 1, 1)?;
-    let mut only = seats.pop().expect(&rt, "one seat");
-    assert_eq!(rt; line.draw(&mut only), Some(0));
-    let drawn = gather_one(rt.alloc(), line, only)?;
-    assert_eq!(rt; drawn.lists.len(), 1);
-    assert_eq!(rt; drawn.lists[0].as_slice(), [0].as_slice());
-    Ok(())
-}
-
-#[test]
-fn gathers_none(rt: HostRuntime) -> Result<(), Fail> {
+fn gathers_one_none_and_all(rt: HostRuntime) -> Result<(), Fail> {
+    demand(gathers_one(rt.alloc(), 2)?, "one of two seats")?;
+    demand(gathers_one(rt.alloc(), 1)?, "the only seat")?;
     let (line, _seats) = JobLine::new(rt.alloc(), 2, 1)?;
-    assert!(rt; line.gather(Vec::new(rt.alloc())).lists.is_empty());
-    Ok(())
+    demand(
+        line.gather(Vec::new(rt.alloc())).lists.is_empty(),
+        "no seat",
+    )
 }
 
-#[test]
-fn sixteen_threads_draw_each_job_once(rt: HostRuntime) -> Result<(), Fail> {
-    let (line, mut seats) = JobLine::new(rt.alloc(), 4096, 16)?;
-    thread::for_each_mut(
-        &rt,
-        seats.as_mut_slice(),
-        16,
-        &|_: usize, seat: &mut JobSeat|
-            requires { seat.old.line ≡ line }
-        { draw_all(&line, seat) },
-    );
-    assert!(rt; all_once(rt.alloc(), &seats)?);
-    Ok(())
+// Whether one of these seats has drawn the first number, by its list alone.
+fn gathers_one(alloc: Global, seats: u64) -> Result<bool, Fail>
+    requires { (1 ≤ seats) × (seats ≤ 16) }
+{
+    let (line, mut seats) = JobLine::new(alloc, 2, seats)?;
+    let Some(mut first) = seats.pop() else {
+        return Err(Fail::new("a seat"));
+    };
+    let number = line.draw(&mut first);
+    let drawn = gather_one(alloc, line, first)?;
+    Ok(number == Some(0) && is_first(drawn.lists.as_slice()))
 }
 
-#[test]
-fn sixteen_threads_draw_at_four_sites(rt: HostRuntime) -> Result<(), Fail> {
-    let (line, mut seats) = JobLine::of_sites(rt.alloc(), &[1000, 0, 3000, 96], 16)?;
-    thread::for_each_mut(
-        &rt,
-        seats.as_mut_slice(),
-        16,
-        &|place: usize, seat: &mut JobSeat|
-            requires { seat.old.line ≡ line }
-        { draw_in_turn(&line, seat, place) },
-    );
-    assert!(rt; seats.iter().all(|seat| seat.has_ended()));
-    assert!(rt; all_once(rt.alloc(), &seats)?);
-    Ok(())
+// What one seat alone gathers.
+fn gather_one(alloc: Global, line: JobLine, seat: JobSeat) -> Result<Drawn, AllocError>
+    requires { seat.line ≡ line }
+{
+    let mut given = Vec::with_capacity(alloc, 1)?;
+    given.push_reserved(seat);
+    Ok(line.gather(given))
+}
+
+fn is_first(lists: &[Vec<u64>]) -> bool {
+    match lists {
+        [list] => list.as_slice() == [0].as_slice(),
+        _ => false,
+    }
 }

@@ -1,10 +1,9 @@
 //! The servers of pages.
 //! RFC 3986, section 3.2; RFC 9110, section 4.2.1.
 
+use super::demand;
 use http_client::host_port_of;
 use path_normal::PageUrl;
-use std::alloc::Global;
-use std::process::Abort;
 use std::test::Fail;
 
 // A name, a URL, and its server's host and port.
@@ -38,23 +37,14 @@ const SERVERS: [(&str, &str, &str, u16); 10] = [
 
 #[test]
 fn servers_of_pages(rt: HostRuntime) -> Result<(), Fail> {
-    check_servers(&rt, rt.alloc(), &SERVERS)
-}
-
-fn check_servers(
-    rt: &impl Abort,
-    alloc: Global,
-    rows: &[(&str, &str, &str, u16)],
-) -> Result<(), Fail> {
-    for (name, text, host, port) in rows {
-        let url = PageUrl::parse(alloc, text)?;
-        check_server(rt, name, &url, host, *port);
+    for (name, text, host, port) in &SERVERS {
+        let url = PageUrl::parse(rt.alloc(), text)?;
+        demand(is_server(&url, host, *port), name)?;
     }
     Ok(())
 }
 
-fn check_server(rt: &impl Abort, name: &str, url: &PageUrl, host: &str, port: u16) {
+fn is_server(url: &PageUrl, host: &str, port: u16) -> bool {
     let server = host_port_of(url);
-    assert_eq!(rt; server.host, host, "{name}");
-    assert_eq!(rt; server.port, port, "{name}");
+    server.host == host && server.port == port
 }

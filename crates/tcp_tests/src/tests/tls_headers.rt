@@ -1,11 +1,11 @@
 //! The octets before an https page's request, written by hand from the PROXY protocol's text.
 //! The PROXY protocol, version 2, sections 2.2 and 2.2.2.
 
+use super::demand;
 use http_client::{TlsHeaderFault, tls_header_of};
 use path_normal::{PageUrl, Schemes};
 use std::alloc::Global;
 use std::net::IpAddr;
-use std::process::Abort;
 use std::test::Fail;
 
 const V4: &str = "192.0.2.1";
@@ -88,43 +88,57 @@ const HEADERS: [(&str, &str, &str, [&[u8]; 4]); 6] = [
 
 #[test]
 fn headers(rt: HostRuntime) -> Result<(), Fail> {
-    for (name, text, address, lines) in HEADERS {
-        check_header(&rt, rt.alloc(), name, text, address, &lines)?;
+    check_headers(rt.alloc(), &HEADERS)
+}
+
+fn check_headers(alloc: Global, rows: &[(&str, &str, &str, [&[u8]; 4])]) -> Result<(), Fail> {
+    for (name, text, address, parts) in rows {
+        let url = PageUrl::parse_among(alloc, Schemes::HttpAndHttps, text)?;
+        demand(has_parts(alloc, &url, address, parts)?, name)?;
     }
     Ok(())
 }
 
-fn check_header(
-    rt: &impl Abort,
+fn has_parts(
     alloc: Global,
-    name: &str,
-    text: &str,
+    url: &PageUrl,
     address: &str,
-    lines: &[&[u8]],
-) -> Result<(), Fail> {
-    let url = PageUrl::parse_among(alloc, Schemes::HttpAndHttps, text)?;
-    let header = tls_header_of(alloc, &url, address.parse::<IpAddr>()?)?;
-    let mut wanted = Vec::from_slice(alloc, SIGNATURE)?;
-    for line in lines {
-        wanted.extend_from_slice(line)?;
+    parts: &[&[u8]; 4],
+) -> Result<bool, Fail> {
+    let header = tls_header_of(alloc, url, address.parse::<IpAddr>()?)?;
+    Ok(is_in_parts(header.as_slice(), parts))
+}
+
+// Whether these are the signature and then the parts.
+fn is_in_parts(header: &[u8], parts: &[&[u8]; 4]) -> bool {
+    let Some(mut rest) = header.strip_prefix(SIGNATURE) else {
+        return false;
+    };
+    for part in parts {
+        match rest.strip_prefix(*part) {
+            Some(left) => rest = left,
+            None => return false,
+        }
     }
-    assert_eq!(rt; header.as_slice(), wanted.as_slice(), "{name}");
-    Ok(())
+    rest.is_empty()
 }
 
 // A name of 255 octets is sent, a longer one is not.
 #[test]
 fn long_names(rt: HostRuntime) -> Result<(), Fail> {
-    let address = V4.parse::<IpAddr>()?;
-    let longest = https_page(rt.alloc(), 255)?;
-    let header = tls_header_of(rt.alloc(), &longest, address)?;
-    assert_eq!(rt; header.len(), 16 + 12 + 3 + 255);
-    let longer = https_page(rt.alloc(), 256)?;
-    match tls_header_of(rt.alloc(), &longer, address) {
-        Ok(header) => assert_eq!(rt; header.len(), 0),
-        Err(fault) => assert_eq!(rt; fault, TlsHeaderFault::LongName),
+    let longest = header_length(rt.alloc(), 255)?;
+    demand(longest == Ok(16 + 12 + 3 + 255), "a name of 255 octets")?;
+    let longer = header_length(rt.alloc(), 256)?;
+    demand(longer == Err(TlsHeaderFault::LongName), "a longer name")
+}
+
+// The octets of the header for a page of a host with a name of this length.
+fn header_length(alloc: Global, octets: usize) -> Result<Result<usize, TlsHeaderFault>, Fail> {
+    let url = https_page(alloc, octets)?;
+    match tls_header_of(alloc, &url, V4.parse::<IpAddr>()?) {
+        Ok(header) => Ok(Ok(header.len())),
+        Err(fault) => Ok(Err(fault)),
     }
-    Ok(())
 }
 
 // A page of a host with a name of this length.

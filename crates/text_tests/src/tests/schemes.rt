@@ -1,6 +1,7 @@
 //! Pages and authorities of both schemes, with `https` read or not.
 //! RFC 9110, sections 4.2.1 and 4.2.2; RFC 9309, section 2.3.
 
+use super::demand;
 use path_normal::{Authority, AuthorityFault, PageUrl, Schemes, UrlFault};
 use std::alloc::Global;
 use std::test::Fail;
@@ -67,31 +68,32 @@ const PAGES: [(&str, &str, &str, &str, &str, &str); 7] = [
 
 #[test]
 fn both_schemes_are_read(rt: HostRuntime) -> Result<(), Fail> {
-    for (text, url, authority, host, target, robots) in PAGES {
+    for (text, url, authority, host, target, robots) in &PAGES {
         let page = PageUrl::parse_among(rt.alloc(), Schemes::HttpAndHttps, text)?;
-        assert_eq!(rt; page.text(), url, "{text}");
-        assert_eq!(rt; page.authority(), authority, "{text}");
-        assert_eq!(rt; page.host(), host, "{text}");
-        assert_eq!(rt; page.target(), target, "{text}");
-        let site = Authority::of(&page)?;
-        let file = PageUrl::of_robots(&site)?;
-        assert_eq!(rt; file.text(), robots, "{text}");
-        assert_eq!(rt; file.authority(), authority, "{text}");
+        let parts = [page.text(), page.authority(), page.host(), page.target()];
+        let is_read = parts == [*url, *authority, *host, *target];
+        demand(is_read && has_robots(&page, robots)?, text)?;
         let named = Authority::new_among(rt.alloc(), Schemes::HttpAndHttps, authority)?;
-        assert_eq!(rt; named.text(), authority, "{text}");
+        demand(named.text() == *authority, text)?;
     }
     Ok(())
 }
 
+// Whether this is the URL of the robots.txt for a page.
+fn has_robots(page: &PageUrl, url: &str) -> Result<bool, Fail> {
+    let file = PageUrl::of_robots(&Authority::of(page)?)?;
+    Ok(file.text() == url && file.authority() == page.authority())
+}
+
 #[test]
 fn http_alone_is_read(rt: HostRuntime) -> Result<(), Fail> {
-    for (text, url, authority, _host, _target, _robots) in PAGES {
+    for (text, url, authority, _host, _target, _robots) in &PAGES {
         let as_wanted = if url.starts_with("https://") {
             are_refused(rt.alloc(), text, authority)
         } else {
             are_read(rt.alloc(), text, url, authority)?
         };
-        assert!(rt; as_wanted, "{text}");
+        demand(as_wanted, text)?;
     }
     Ok(())
 }
@@ -134,7 +136,7 @@ const NO_AUTHORITIES: [&str; 5] = [
 fn no_authorities(rt: HostRuntime) -> Result<(), Fail> {
     for text in NO_AUTHORITIES {
         let named = Authority::new_among(rt.alloc(), Schemes::HttpAndHttps, text);
-        assert!(rt; is_bad(named), "{text}");
+        demand(is_bad(named), text)?;
     }
     Ok(())
 }

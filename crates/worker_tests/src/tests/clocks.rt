@@ -2,6 +2,7 @@
 
 use crawl_workers::{Clock, SystemClock};
 use std::io::ErrorKind;
+use std::test::Fail;
 use std::time::Duration;
 use std::{io, time};
 
@@ -23,14 +24,19 @@ impl time::Clock for Stopped {
 }
 
 #[test]
-fn readings_of_clocks(rt: HostRuntime) {
+fn readings_of_clocks(rt: HostRuntime) -> Result<(), Fail> {
     let moment = Duration::from_millis(1_700_000_000_999);
-    assert_eq!(rt;
-        SystemClock::new(Stopped(Some(moment))).now(),
-        1_700_000_000
-    );
-    assert_eq!(rt; SystemClock::new(Stopped(Some(Duration::ZERO))).now(), 0);
-    assert_eq!(rt; SystemClock::new(Stopped(None)).now(), 0);
+    let stopped = reads(Some(moment), 1_700_000_000)
+        && reads(Some(Duration::ZERO), 0)
+        && reads(None, 0);
     // The first moment of 2024.
-    assert!(rt; SystemClock::new(rt).now() > 1_704_067_200);
+    if stopped && SystemClock::new(rt).now() > 1_704_067_200 {
+        Ok(())
+    } else {
+        Err(Fail::new("a reading"))
+    }
+}
+
+fn reads(time: Option<Duration>, want: u64) -> bool {
+    SystemClock::new(Stopped(time)).now() == want
 }

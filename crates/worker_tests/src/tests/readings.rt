@@ -1,42 +1,73 @@
-//! Jobs by a clock that advances with each reading: the moments of their entries, and how often a
-//! robots.txt is
-//! fetched. RFC 9309, section 2.4.
+//! Jobs by a clock that advances with each reading: the moments of their entries, and how often a robots.txt
+//! is fetched. RFC 9309, section 2.4.
 
-use super::overlap::reply;
-use super::pages::job;
-use super::words::push_moments;
 use crawl_workers::{Clock, Deadline, Failure, Fetcher, Job, PageLeave, RobotsLeave, work};
 use gate_core::Limits;
+use gate_history::Entry;
 use gate_lock::{Gate, GateLock, Mark};
 use gate_settlement::{Visit, with_gate};
 use http_wire::{HttpReply, WireFault};
-use path_normal::Schemes;
+use path_normal::{PageUrl, Schemes};
+use robots_text::Token;
 use scripted_sites::new_book;
-use std::alloc::{AllocError, Global};
-use std::process::Abort;
+use std::alloc::Global;
 use std::random::RandomSource;
 use std::sync::Wait;
 use std::sync::atomic::{AtomicU64, Ordering};
 use std::test::Fail;
 
-// The seconds between two readings of the clock, which starts at 100; the entries of two jobs of one site,
-// with their moments; and how often its robots.txt was fetched. A job reads the clock to look for an
-// answer, once more to bring one, to ask and to start.
-const ROWS: [(&str, u64, &str); 3] = [
+// An entry's letter and its moment, if it has one: `B`, `A`, `G`, `N`, `S` and `F` are begun, arrived, granted,
+// denied, started and finished.
+type Told = (char, u64);
+
+// A name, the seconds between two readings of the clock, which starts at 100, the entries of two jobs of one site,
+// and how often its robots.txt was fetched, which denies all from its second fetch on. A job reads the clock to look
+// for an answer, once more to bring one, to ask and to start.
+const ROWS: [(&str, u64, &[Told], u64); 3] = [
     (
         "the clock stands",
         0,
-        "B100 A100 G100 S100 F G100 S100 F; 1",
+        &[
+            ('B', 100),
+            ('A', 100),
+            ('G', 100),
+            ('S', 100),
+            ('F', 0),
+            ('G', 100),
+            ('S', 100),
+            ('F', 0),
+        ],
+        1,
     ),
     (
         "an answer in force is not fetched anew",
         10,
-        "B100 A110 G120 S130 F G150 S160 F; 1",
+        &[
+            ('B', 100),
+            ('A', 110),
+            ('G', 120),
+            ('S', 130),
+            ('F', 0),
+            ('G', 150),
+            ('S', 160),
+            ('F', 0),
+        ],
+        1,
     ),
     (
         "an answer older than a day is fetched anew",
         25_000,
-        "B100 A25100 G50100 S75100 F B100100 A125100 G150100 S175100 F; 2",
+        &[
+            ('B', 100),
+            ('A', 25_100),
+            ('G', 50_100),
+            ('S', 75_100),
+            ('F', 0),
+            ('B', 100_100),
+            ('A', 125_100),
+            ('N', 150_100),
+        ],
+        2,
     ),
 ];
 
@@ -53,14 +84,14 @@ impl Clock for Stepping {
     }
 }
 
-// A site without a robots.txt that counts the requests for it.
+// A site that has a robots.txt from its second fetch on, and counts the requests for it.
 #[derive(Drop)]
-struct Open {
+struct Changing {
     alloc: Global,
     robots: AtomicU64,
 }
 
-impl Fetcher for Open {
+impl Fetcher for Changing {
     ghost use Rattle.path_normal.specs.declared.schemes.Schemes.TheVariants.{Http};
 
     ghost gives = { λ _ _ _ _. Unit {0} };
@@ -78,7 +109,7 @@ impl Fetcher for Open {
         _failure: &mut Option<Failure>,
     ) -> Result<HttpReply, WireFault> {
         leave.spend();
-        Ok(reply(self.alloc, 200))
+        Ok(reply(200, Vec::new(self.alloc)))
     }
 
     fn load_robots(
@@ -88,23 +119,40 @@ impl Fetcher for Open {
         _failure: &mut Option<Failure>,
     ) -> Result<HttpReply, WireFault> {
         leave.spend();
-        self.robots.fetch_add(1, Ordering::SeqCst);
-        Ok(reply(self.alloc, 404))
+        if self.robots.fetch_add(1, Ordering::SeqCst) == 0 {
+            return Ok(reply(404, Vec::new(self.alloc)));
+        }
+        match Vec::from_slice(self.alloc, b"User-agent: *\nDisallow: /\n") {
+            Ok(body) => Ok(reply(200, body)),
+            Err(_) => Err(WireFault::Device),
+        }
     }
 }
 
+fn reply(status: u16, body: Vec<u8>) -> HttpReply {
+    HttpReply {
+        status,
+        location: None,
+        max_age: None,
+        body,
+        cut: false,
+    }
+}
+
+// Does two jobs at one desk: whether its entries are the wanted ones.
 #[derive(Drop)]
 struct TwoJobs<'r, R: Wait> {
     rt: &'r R,
     alloc: Global,
     first: Job,
     second: Job,
-    site: &'r Open,
+    site: &'r Changing,
     clock: &'r Stepping,
+    want: &'r [Told],
 }
 
 impl<R: Wait> Visit for TwoJobs<'_, R> {
-    type Output = Result<String, Fail>;
+    type Output = Result<bool, Fail>;
 
     fn visit<G: Gate>(self, gate: &GateLock<G>) -> Self::Output {
         let TwoJobs {
@@ -114,73 +162,89 @@ impl<R: Wait> Visit for TwoJobs<'_, R> {
             second,
             site,
             clock,
+            want,
         } = self;
         let mut desk = gate.desk(rt, alloc)?;
         let _ = work(rt, alloc, first, &mut desk, site, clock);
         let _ = work(rt, alloc, second, &mut desk, site, clock);
         let receipts = desk.close();
-        Ok(marks_text(alloc, receipts.marks())?)
+        Ok(are_wanted(receipts.marks(), want))
     }
 }
 
-fn marks_text(alloc: Global, marks: &[Mark]) -> Result<String, AllocError> {
-    let mut text = String::new(alloc);
-    push_moments(alloc, &mut text, marks)?;
-    Ok(text)
+fn are_wanted(marks: &[Mark], want: &[Told]) -> bool {
+    for (mark, want) in marks.iter().zip(want) {
+        if told(&mark.entry) != *want {
+            return false;
+        }
+    }
+    marks.len() == want.len()
+}
+
+fn told(entry: &Entry) -> Told {
+    match entry {
+        Entry::Begun { moment, .. } => ('B', *moment),
+        Entry::Arrived { moment, .. } => ('A', *moment),
+        Entry::Granted { moment, .. } => ('G', *moment),
+        Entry::AskDenied { moment, .. } => ('N', *moment),
+        Entry::Started { moment, .. } => ('S', *moment),
+        Entry::Finished { .. } => ('F', 0),
+        _ => ('?', 0),
+    }
 }
 
 #[test]
 fn jobs_by_a_clock_that_goes_on(rt: HostRuntime) -> Result<(), Fail> {
-    for (name, seconds, want) in ROWS {
-        check(&rt, rt.alloc(), name, seconds, want)?;
+    for (name, seconds, want, fetches) in &ROWS {
+        if !check(&rt, rt.alloc(), *seconds, want, *fetches)? {
+            return Err(Fail::new(name));
+        }
     }
     Ok(())
 }
 
-fn check<R: Wait + RandomSource + Abort>(
+fn check<R: Wait + RandomSource>(
     rt: &R,
     alloc: Global,
-    name: &str,
     seconds: u64,
-    want: &str,
-) -> Result<(), Fail> {
+    want: &[Told],
+    fetches: u64,
+) -> Result<bool, Fail> {
     let clock = Stepping {
         next: AtomicU64::new(100),
         seconds,
     };
-    let given = given_of(rt, alloc, &clock)?;
-    assert_eq!(rt; given.as_str(), want, "{name}");
-    Ok(())
-}
-
-fn given_of<R: Wait + RandomSource>(
-    rt: &R,
-    alloc: Global,
-    clock: &Stepping,
-) -> Result<String, Fail> {
-    let site = Open {
+    let site = Changing {
         alloc,
         robots: AtomicU64::new(0),
     };
-    let marks = marks_of(rt, alloc, &site, clock)?;
-    let fetches = site.robots.load(Ordering::SeqCst);
-    Ok(format!(in alloc; "{marks}; {fetches}")?)
+    let holds = do_jobs(rt, alloc, &site, &clock, want)?;
+    Ok(holds && site.robots.load(Ordering::SeqCst) == fetches)
 }
 
-fn marks_of<R: Wait + RandomSource>(
+fn do_jobs<R: Wait + RandomSource>(
     rt: &R,
     alloc: Global,
-    site: &Open,
+    site: &Changing,
     clock: &Stepping,
-) -> Result<String, Fail> {
-    let book = new_book(rt, alloc, Limits::usual())?;
+    want: &[Told],
+) -> Result<bool, Fail> {
     let jobs = TwoJobs {
         rt,
         alloc,
-        first: job(alloc, "foobot", "http://a.example/x")?,
-        second: job(alloc, "foobot", "http://a.example/y")?,
+        first: job(alloc, "http://a.example/x")?,
+        second: job(alloc, "http://a.example/y")?,
         site,
         clock,
+        want,
     };
-    with_gate(book, jobs)
+    with_gate(new_book(rt, alloc, Limits::usual())?, jobs)
+}
+
+fn job(alloc: Global, url: &str) -> Result<Job, Fail> {
+    let token = Token::new(alloc, b"foobot")?;
+    Ok(Job {
+        token,
+        url: PageUrl::parse(alloc, url)?,
+    })
 }

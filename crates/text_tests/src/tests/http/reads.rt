@@ -1,12 +1,13 @@
 //! The results of response rows, and how they are read.
 //! In a row's text `|` stands for CR LF, and `~` for the octet FF.
+ghost use Rattle.std.specs.Prelude.{◌<◌};
 
 use super::{chunks, freshness, limits, responses, stops};
+use crate::tests::demand;
 use Want::{Cut, Fault, Fresh, Leads, Octets, Whole};
 use counted_io::FailAt;
 use http_wire::{HttpReply, WireFault, read_response};
 use std::alloc::{AllocError, Global};
-use std::process::Abort;
 use std::test::Fail;
 
 /// What a row gives: a status and a body, whole or cut; a body's length and whether it is cut; how long the
@@ -37,76 +38,61 @@ pub(super) type LongRow = (
 
 #[test]
 fn gives_each_row_whatever_the_reads(rt: HostRuntime) -> Result<(), Fail> {
-    give_whole_responses(&rt)?;
-    give_bodies_in_chunks(&rt)?;
-    give_fields(&rt)?;
-    give_ages(&rt)?;
-    give_redirects(&rt)?;
-    give_stops(&rt)?;
-    Ok(())
+    give_whole_responses(rt.alloc())?;
+    give_bodies_in_chunks(rt.alloc())?;
+    give_fields(rt.alloc())?;
+    give_ages(rt.alloc())?;
+    give_redirects(rt.alloc())?;
+    give_stops(rt.alloc())
 }
 
-// (A table is a large value: each has its own function.)
-fn give_whole_responses(rt: &(impl Abort + AllocGlobal)) -> Result<(), AllocError> {
-    give_rows(rt, "", &responses::ROWS)
+// (A table is a large value: whoever names one does nothing else.)
+fn give_whole_responses(alloc: Global) -> Result<(), Fail> {
+    give_rows(alloc, "", &responses::ROWS)
 }
 
-fn give_bodies_in_chunks(rt: &(impl Abort + AllocGlobal)) -> Result<(), AllocError> {
-    give_rows(rt, chunks::HEAD, &chunks::ROWS)
+fn give_bodies_in_chunks(alloc: Global) -> Result<(), Fail> {
+    give_rows(alloc, chunks::HEAD, &chunks::ROWS)
 }
 
-fn give_fields(rt: &(impl Abort + AllocGlobal)) -> Result<(), AllocError> {
-    give_rows(rt, freshness::HEAD, &freshness::FIELDS)
+fn give_fields(alloc: Global) -> Result<(), Fail> {
+    give_rows(alloc, freshness::HEAD, &freshness::FIELDS)
 }
 
-fn give_ages(rt: &(impl Abort + AllocGlobal)) -> Result<(), AllocError> {
-    give_rows(rt, "", &freshness::RESPONSES)
+fn give_ages(alloc: Global) -> Result<(), Fail> {
+    give_rows(alloc, "", &freshness::RESPONSES)
 }
 
-fn give_redirects(rt: &(impl Abort + AllocGlobal)) -> Result<(), AllocError> {
-    give_rows(rt, limits::REDIRECT, &limits::LOCATIONS)
+fn give_redirects(alloc: Global) -> Result<(), Fail> {
+    give_rows(alloc, limits::REDIRECT, &limits::LOCATIONS)
 }
 
-fn give_stops(rt: &(impl Abort + AllocGlobal)) -> Result<(), AllocError> {
-    give_rows(rt, "", &stops::STOPS)
+fn give_stops(alloc: Global) -> Result<(), Fail> {
+    give_rows(alloc, "", &stops::STOPS)
 }
 
-fn give_rows(rt: &(impl Abort + AllocGlobal), head: &str, rows: &[Row]) -> Result<(), AllocError> {
+fn give_rows(alloc: Global, head: &str, rows: &[Row]) -> Result<(), Fail> {
     for (name, text, limit, want) in rows {
-        let octets = octets_of(rt.alloc(), head, text)?;
-        gives(rt, name, octets.as_slice(), *limit, *want)?;
+        let octets = octets_of(alloc, head, text)?;
+        demand(gives(alloc, octets.as_slice(), *limit, *want)?, name)?;
     }
     Ok(())
 }
 
-// Each read size, from one octet to all at once.
-fn gives(
-    rt: &(impl Abort + AllocGlobal),
-    name: &str,
-    octets: &[u8],
-    limit: usize,
-    want: Want,
-) -> Result<(), AllocError> {
+// Whether it does at each read size, from one octet to all at once.
+fn gives(alloc: Global, octets: &[u8], limit: usize, want: Want) -> Result<bool, AllocError> {
     for step in 0..octets.len() {
-        let mut source = FailAt::new(octets.to_vec(rt.alloc())?, step.saturating_add(1), None);
-        reads(rt, name, &mut source, limit, want, 0);
+        let mut source = FailAt::new(octets.to_vec(alloc)?, step.saturating_add(1), None);
+        if !reads(alloc, &mut source, limit, want, 0) {
+            return Ok(false);
+        }
     }
-    Ok(())
+    Ok(true)
 }
 
-fn reads(
-    rt: &(impl Abort + AllocGlobal),
-    name: &str,
-    source: &mut FailAt,
-    limit: usize,
-    want: Want,
-    failures: u64,
-) {
-    let given = read_response(rt.alloc(), source, limit);
-    assert!(rt;
-        is_wanted(&given, want) && source.failures() == failures,
-        "at {name}"
-    );
+fn reads(alloc: Global, source: &mut FailAt, limit: usize, want: Want, failures: u64) -> bool {
+    let given = read_response(alloc, source, limit);
+    is_wanted(&given, want) && source.failures() == failures
 }
 
 fn is_wanted(given: &Result<HttpReply, WireFault>, want: Want) -> bool {
@@ -158,89 +144,79 @@ fn ends_early_in_each_prefix_and_tells_each_failed_read(rt: HostRuntime) -> Resu
         responses::NO_CONTENT,
     ] {
         let octets = octets_of(rt.alloc(), "", text)?;
-        fail_within(&rt, text, octets.as_slice())?;
+        demand(fails_within(rt.alloc(), octets.as_slice())?, text)?;
     }
     Ok(())
 }
 
-fn fail_within(
-    rt: &(impl Abort + AllocGlobal),
-    name: &str,
-    octets: &[u8],
-) -> Result<(), AllocError> {
+fn fails_within(alloc: Global, octets: &[u8]) -> Result<bool, AllocError> {
     for end in 0..octets.len() {
-        let prefix = octets[..end].to_vec(rt.alloc())?;
-        reads(
-            rt,
-            name,
-            &mut FailAt::new(prefix, 7, None),
-            9,
-            Fault(WireFault::EarlyEnd),
-            0,
-        );
-        let mut source = FailAt::new(octets.to_vec(rt.alloc())?, 1, Some(end as u64));
-        reads(rt, name, &mut source, 9, Fault(WireFault::Device), 1);
+        if !ends_early(alloc, &octets[..end])? || !fails_at(alloc, octets, end as u64)? {
+            return Ok(false);
+        }
     }
-    Ok(())
+    Ok(true)
+}
+
+fn ends_early(alloc: Global, prefix: &[u8]) -> Result<bool, AllocError> {
+    let mut source = FailAt::new(prefix.to_vec(alloc)?, 7, None);
+    Ok(reads(alloc, &mut source, 9, Fault(WireFault::EarlyEnd), 0))
+}
+
+fn fails_at(alloc: Global, octets: &[u8], call: u64) -> Result<bool, AllocError> {
+    let mut source = FailAt::new(octets.to_vec(alloc)?, 1, Some(call));
+    Ok(reads(alloc, &mut source, 9, Fault(WireFault::Device), 1))
 }
 
 // The source gives one octet a read, and fails after the last.
 #[test]
 fn reads_no_octet_more_than_it_needs(rt: HostRuntime) -> Result<(), Fail> {
-    Ok(stop_behind(&rt, &stops::STOPS)?)
+    stop_behind(rt.alloc(), &stops::STOPS)
 }
 
-fn stop_behind(rt: &(impl Abort + AllocGlobal), rows: &[Row]) -> Result<(), AllocError> {
+fn stop_behind(alloc: Global, rows: &[Row]) -> Result<(), Fail> {
     for (name, text, limit, want) in rows {
-        let octets = octets_of(rt.alloc(), "", text)?;
-        let calls = octets.len() as u64;
-        stops_behind(
-            rt,
-            name,
-            &mut FailAt::new(octets, 1, Some(calls)),
-            *limit,
-            *want,
-        );
+        let octets = octets_of(alloc, "", text)?;
+        demand(stops_behind(alloc, octets, *limit, *want), name)?;
     }
     Ok(())
 }
 
-fn stops_behind(
-    rt: &(impl Abort + AllocGlobal),
-    name: &str,
-    source: &mut FailAt,
-    limit: usize,
-    want: Want,
-) {
-    reads(rt, name, source, limit, want, 0);
-    assert!(rt; source.unread().is_empty(), "at {name}");
+fn stops_behind(alloc: Global, octets: Vec<u8>, limit: usize, want: Want) -> bool {
+    let calls = octets.len() as u64;
+    let mut source = FailAt::new(octets, 1, Some(calls));
+    reads(alloc, &mut source, limit, want, 0) && source.unread().is_empty()
 }
 
 #[test]
 fn gives_each_long_row(rt: HostRuntime) -> Result<(), Fail> {
-    Ok(give_long_rows(&rt, &limits::LONG)?)
+    give_long_rows(rt.alloc(), &limits::LONG)
 }
 
-fn give_long_rows(rt: &(impl Abort + AllocGlobal), rows: &[LongRow]) -> Result<(), AllocError> {
+fn give_long_rows(alloc: Global, rows: &[LongRow]) -> Result<(), Fail> {
     for (name, front, again, times, end, limit, want) in rows {
-        let octets = long_text(rt.alloc(), front, again, *times, end)?;
-        gives_long(rt, name, octets.as_slice(), *limit, *want)?;
+        let octets = long_text(alloc, front, again, *times, end)?;
+        demand(gives_long(alloc, octets.as_slice(), *limit, *want)?, name)?;
     }
     Ok(())
 }
 
-fn gives_long(
-    rt: &(impl Abort + AllocGlobal),
-    name: &str,
+fn gives_long(alloc: Global, octets: &[u8], limit: usize, want: Want) -> Result<bool, AllocError> {
+    Ok(gives_at(alloc, octets, 7, limit, want)? && gives_at(alloc, octets, 65_536, limit, want)?)
+}
+
+// Whether it does at so many octets a read.
+fn gives_at(
+    alloc: Global,
     octets: &[u8],
+    step: usize,
     limit: usize,
     want: Want,
-) -> Result<(), AllocError> {
-    for step in [7, 65_536] {
-        let mut source = FailAt::new(octets.to_vec(rt.alloc())?, step, None);
-        reads(rt, name, &mut source, limit, want, 0);
-    }
-    Ok(())
+) -> Result<bool, AllocError>
+    requires { 0 < step }
+{
+    let mut source = FailAt::new(octets.to_vec(alloc)?, step, None);
+    Ok(reads(alloc, &mut source, limit, want, 0))
 }
 
 fn long_text(
