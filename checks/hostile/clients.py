@@ -75,12 +75,12 @@ class Client:
 
     def __init__(self, play, dice):
         self.play, self.dice = play, dice
-        self.unspent, self.running, self.segments, self.fault, self.lines = {}, [], [], None, 0
+        self.unspent, self.running, self.segments, self.fault, self.lines, self.is_first = {}, [], [], None, 0, True
 
     def say(self, line, wanted):
         """Says a line, whose reply must match."""
         told = self.session.say(line)
-        self.lines += 1
+        self.lines, self.is_first = self.lines + 1, False
         expect(told is not None and re.fullmatch(wanted, told), line, told)
         return told
 
@@ -135,9 +135,11 @@ class Client:
         self.say(f"REFRESH {authority}", f"TAKEN {re.escape(authority)} {kind}|ERR inflight")
 
     def odd(self):
-        self.say(self.dice.choice(ODD), "ERR [a-z ]+")
+        # (a first line that is no text ends the session)
+        self.say(self.dice.choice([it for it in ODD if it.isprintable() or not self.is_first]), "ERR [a-z ]+")
 
     def fetch(self):
+        self.is_first = False
         token, url = self.page()
         for at, hop in enumerate(self.play.world.hops(token.lower(), url), 1):
             line = f"HOP {at} {hop}"

@@ -73,8 +73,8 @@ def clock_ahead_for_one_fetch(_folder, clocks):
         clocks.move(steady=DAY - 60)
         same(say(server, f"STATE {a}", f"ASK foobot {x}"), [f"STATE {a} open idle", "PERMIT 65536"])
         clocks.move(steady=DAY + 1)
-        same(say(server, f"START 65536 foobot {x}"), [f"NO {a} expired"])
-        same(say(server, f"FETCH foobot {x}"), [f"NO {a} line 2"])
+        same(say(server, f"STATE {a}", f"ASK foobot {x}"), [f"STATE {a} expired idle", f"NO {a} expired"])
+        same(say(server, f"FETCH foobot {x}")[0], f"HOP 1 NO {a} line 2")
 
 
 @with_clocks
@@ -104,17 +104,17 @@ def restarted(folder, clocks, wall):
     with Recorded(folder, "--connections", "2") as server:
         state = say(server, f"STATE {a}")[0].removeprefix(f"STATE {a} ")
         site.pages["/robots.txt"] = DENIED
-        fetched = say(server, f"FETCH foobot {site.url('/x')}")[0].removeprefix(f"NO {a} ")
+        hop = say(server, f"FETCH foobot {site.url('/x')}")[0].split(" ")[2]
         _, status, error = server.end()
         same(status, 0)
-        return state, fetched.split(" ")[0], error.decode(), audit(server.text()).split(" ")[0]
+        return state, hop, error.decode(), audit(server.text()).split(" ")[0]
 
 
 @with_clocks
 def clock_set_back_before_a_start(folder, clocks):
     """A server that goes on with a wall clock that was set back says so, and believes no answer of before; nor does the next."""
-    state, fetched, error, audited = restarted(folder, clocks, 40 * DAY)
-    same((state, fetched, audited), ("expired idle", "line", "OK"))
+    state, hop, error, audited = restarted(folder, clocks, 40 * DAY)
+    same((state, hop, audited), ("expired idle", "NO", "OK"))
     behind = int(error.removeprefix("crawlgate: journal: the clock is ").split(" ")[0])
     assert abs(behind - (TEN_YEARS - 40 * DAY)) < 60, error
     same(error.partition(" s behind ")[2], "the last entry, so each robots.txt is fetched anew\n")
