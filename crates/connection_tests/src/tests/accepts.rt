@@ -36,7 +36,7 @@ impl Accepts for Failing {
 }
 
 // A name, a number, how often it comes, whether a connection then is accepted, and the calls and time.
-const FAULTS: [(&str, i32, u32, bool, u32, u128); 14] = [
+const FAULTS: &[(&str, i32, u32, bool, u32, u128)] = &[
     ("none", 0, 0, true, 1, 0),
     ("ECONNABORTED", 103, 1, true, 2, 0),
     ("ECONNABORTED often", 103, 899, true, 900, 0),
@@ -55,7 +55,7 @@ const FAULTS: [(&str, i32, u32, bool, u32, u128); 14] = [
 
 #[test]
 fn faults(_rt: HostRuntime) -> Result<(), Fail> {
-    check_faults(&FAULTS)?;
+    check_faults(FAULTS)?;
     // Errors without a system number are the device's.
     let error = io::Error::from(ErrorKind::ConnectionAborted);
     demand(AcceptFault::of(&error) == AcceptFault::Device, "no number")

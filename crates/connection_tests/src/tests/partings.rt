@@ -9,7 +9,7 @@ use std::test::Fail;
 const SIXTEEN: &str = "0123456789abcdef";
 
 // A name, what the client does repeatedly, and the octets and time of reading.
-const PARTINGS: [(&str, &[ScriptStep], usize, u128); 7] = [
+const PARTINGS: &[(&str, &[ScriptStep], usize, u128)] = &[
     ("it closes", &[], 0, 0),
     (
         "it closes behind a few octets",
@@ -46,7 +46,7 @@ const PARTINGS: [(&str, &[ScriptStep], usize, u128); 7] = [
 
 #[test]
 fn partings(_rt: HostRuntime) -> Result<(), Fail> {
-    check_partings(&PARTINGS)?;
+    check_partings(PARTINGS)?;
     // Nothing is read from a client that is gone.
     let gone = read_of(&[ScriptStep::Moves(0, SIXTEEN)], false);
     demand(gone == (0, 0), "it is gone")

@@ -13,7 +13,7 @@ const MOST_CALLS: u32 = 1_000;
 
 // A name, what the client does repeatedly, how many reads succeed, and the time of these and the first that
 // fails.
-const READS: [(&str, &[ScriptStep], u32, u128); 9] = [
+const READS: &[(&str, &[ScriptStep], u32, u128)] = &[
     (
         "nothing comes",
         &[ScriptStep::Moves(900_000, "a")],
@@ -78,7 +78,7 @@ const READS: [(&str, &[ScriptStep], u32, u128); 9] = [
 
 #[test]
 fn reads(_rt: HostRuntime) -> Result<(), Fail> {
-    check_reads(&READS)?;
+    check_reads(READS)?;
     // The patience may be another.
     let given = read_by(2, &[ScriptStep::Moves(500, "a")]);
     demand(given == (4, 2_000), "two seconds")
@@ -109,7 +109,7 @@ fn reads_of<R: Read>(client: &mut R) -> u32 {
 }
 
 // How many writes succeed before one fails. They end lines, but the client doesn't.
-const WRITES: [(&str, &[ScriptStep], u32, u128); 4] = [
+const WRITES: &[(&str, &[ScriptStep], u32, u128)] = &[
     (
         "nothing is taken",
         &[ScriptStep::Moves(900_000, "a")],
@@ -138,7 +138,7 @@ const WRITES: [(&str, &[ScriptStep], u32, u128); 4] = [
 
 #[test]
 fn writes(_rt: HostRuntime) -> Result<(), Fail> {
-    check_writes(&WRITES)
+    check_writes(WRITES)
 }
 
 fn check_writes(rows: &[(&str, &[ScriptStep], u32, u128)]) -> Result<(), Fail> {
@@ -166,7 +166,7 @@ fn writes_of<W: Write>(client: &mut W) -> u32 {
 
 // A name, the client's steps for reads and for writes, and the calls in order: `r` and `w`, in capitals if
 // they fail.
-const BOTH: [(&str, &[ScriptStep], &[ScriptStep], &str); 4] = [
+const BOTH: &[(&str, &[ScriptStep], &[ScriptStep], &str)] = &[
     (
         "the waiting of both sides adds up",
         &[ScriptStep::Moves(100_000, "a")],
@@ -195,7 +195,7 @@ const BOTH: [(&str, &[ScriptStep], &[ScriptStep], &str); 4] = [
 
 #[test]
 fn both_sides(_rt: HostRuntime) -> Result<(), Fail> {
-    for (name, read, written, want) in &BOTH {
+    for (name, read, written, want) in BOTH {
         demand(are_so(read, written, want), name)?;
     }
     Ok(())

@@ -58,7 +58,7 @@ impl<'a> AtHand for Watched<'a> {
 
 // A name, what each read of the connection brings, and the events: `r` a read, `w` a write, in capitals if
 // they fail, a number of seconds of work, and `+` or `-` if the client has sent something ahead or not.
-const TURNS: [(&str, &str, &str); 10] = [
+const TURNS: &[(&str, &str, &str)] = &[
     ("fetches sent ahead, a second for each", "F\n", "+r1r1R"),
     ("refreshes sent ahead", "R\n", "+r1r1R"),
     ("other lines", "S\n", "+r9r9r"),
@@ -93,7 +93,7 @@ const TURNS: [(&str, &str, &str); 10] = [
 
 #[test]
 fn turns(rt: HostRuntime) -> Result<(), Fail> {
-    check_turns(rt.alloc(), &TURNS)
+    check_turns(rt.alloc(), TURNS)
 }
 
 fn check_turns(alloc: Global, rows: &[(&str, &'static str, &str)]) -> Result<(), Fail> {
@@ -167,7 +167,7 @@ fn is_so<L: Read, W: Write>(
 }
 
 // A name, what the connection brings at once, the octets of a read, and those that each read returns.
-const LINES: [(&str, &str, usize, &[usize]); 6] = [
+const LINES: &[(&str, &str, usize, &[usize])] = &[
     ("other lines together", "a\nbc\n\nd", 8, &[7]),
     ("a fetch by itself", "F\nS\n", 8, &[2, 2]),
     ("up to a fetch", "S\nR\nF\n", 8, &[2, 2, 2]),
@@ -178,7 +178,7 @@ const LINES: [(&str, &str, usize, &[usize]); 6] = [
 
 #[test]
 fn together(rt: HostRuntime) -> Result<(), Fail> {
-    check_lines(rt.alloc(), &LINES)
+    check_lines(rt.alloc(), LINES)
 }
 
 fn check_lines(alloc: Global, rows: &[(&str, &'static str, usize, &[usize])]) -> Result<(), Fail> {

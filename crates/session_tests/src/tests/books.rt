@@ -22,7 +22,7 @@ const LATE: u64 = 300_000;
 const STILL: [u64; 3] = [110, 110, 110];
 
 // A name, the moments of the readings, a client's lines, and the replies. The answer of a.example is open.
-const ROWS: [(&str, [u64; 3], &str, &str); 11] = [
+const ROWS: &[(&str, [u64; 3], &str, &str)] = &[
     (
         "spent once",
         STILL,
@@ -106,7 +106,7 @@ impl Clock for Passing {
 
 #[test]
 fn sessions_over_a_book(rt: HostRuntime) -> Result<(), Fail> {
-    for (name, moments, lines, replies) in &ROWS {
+    for (name, moments, lines, replies) in ROWS {
         let mut book = new_book(&rt, rt.alloc(), Limits::usual())?;
         check_row(rt.alloc(), &mut book, *moments, name, lines, replies)?;
     }

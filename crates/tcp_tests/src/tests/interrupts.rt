@@ -104,7 +104,7 @@ struct Row {
     holds: bool,
 }
 
-const ROWS: [Row; 6] = [
+const ROWS: &[Row] = &[
     Row {
         name: "no interruption",
         times: 0,
@@ -151,7 +151,7 @@ const ROWS: [Row; 6] = [
 
 #[test]
 fn interruptions(rt: HostRuntime) -> Result<(), Fail> {
-    for row in &ROWS {
+    for row in ROWS {
         demand(is_so(reads(&rt, row)?, row), row.name)?;
         demand(is_so(writes(&rt, row)?, row), row.name)?;
     }

@@ -7,7 +7,7 @@ use path_normal::PageUrl;
 use std::test::Fail;
 
 // A name, a URL, and its server's host and port.
-const SERVERS: [(&str, &str, &str, u16); 10] = [
+const SERVERS: &[(&str, &str, &str, u16)] = &[
     ("a name", "http://a.example/x", "a.example", 80),
     ("a port", "http://a.example:8080/x:9", "a.example", 8_080),
     ("port 80, written", "http://a.example:80/", "a.example", 80),
@@ -37,7 +37,7 @@ const SERVERS: [(&str, &str, &str, u16); 10] = [
 
 #[test]
 fn servers_of_pages(rt: HostRuntime) -> Result<(), Fail> {
-    for (name, text, host, port) in &SERVERS {
+    for (name, text, host, port) in SERVERS {
         let url = PageUrl::parse(rt.alloc(), text)?;
         demand(is_server(&url, host, *port), name)?;
     }

@@ -17,7 +17,7 @@ const SIGNATURE: &[u8] = b"\x0d\x0a\x0d\x0a\x00\x0d\x0a\x51\x55\x49\x54\x0a";
 
 // A name, a URL, the address to connect to, and what follows the signature: kind and length, addresses,
 // ports, and name.
-const HEADERS: [(&str, &str, &str, [&[u8]; 4]); 6] = [
+const HEADERS: &[(&str, &str, &str, [&[u8]; 4])] = &[
     (
         "IPv4",
         "https://a.example/x",
@@ -88,7 +88,7 @@ const HEADERS: [(&str, &str, &str, [&[u8]; 4]); 6] = [
 
 #[test]
 fn headers(rt: HostRuntime) -> Result<(), Fail> {
-    check_headers(rt.alloc(), &HEADERS)
+    check_headers(rt.alloc(), HEADERS)
 }
 
 fn check_headers(alloc: Global, rows: &[(&str, &str, &str, [&[u8]; 4])]) -> Result<(), Fail> {

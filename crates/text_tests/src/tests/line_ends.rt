@@ -14,7 +14,7 @@ struct Row {
     lines: &'static [(NextLine, &'static [u8])],
 }
 
-const ROWS: [Row; 12] = [
+const ROWS: &[Row] = &[
     Row {
         name: "line feeds",
         input: b"ab\n\nc\n",
@@ -107,7 +107,7 @@ const ROWS: [Row; 12] = [
 ];
 
 // Lines and their octets, if only LF ends a line.
-const LF_ROWS: [Row; 4] = [
+const LF_ROWS: &[Row] = &[
     Row {
         name: "a carriage return before the line feed stays",
         input: b"ab\r\n\r\n",
@@ -145,7 +145,7 @@ const LF_ROWS: [Row; 4] = [
 
 #[test]
 fn reads_lines(rt: HostRuntime) -> Result<(), Fail> {
-    for row in &ROWS {
+    for row in ROWS {
         at_each_size(rt.alloc(), row, LineEnd::LfOrCrLf)?;
     }
     Ok(())
@@ -153,7 +153,7 @@ fn reads_lines(rt: HostRuntime) -> Result<(), Fail> {
 
 #[test]
 fn keeps_carriage_returns_where_told(rt: HostRuntime) -> Result<(), Fail> {
-    for row in &LF_ROWS {
+    for row in LF_ROWS {
         at_each_size(rt.alloc(), row, LineEnd::Lf)?;
     }
     Ok(())

@@ -7,7 +7,7 @@ use std::alloc::Global;
 use std::test::Fail;
 
 // A text, and what it reads as: URL, authority, host, target, and robots.txt URL.
-const PAGES: [(&str, &str, &str, &str, &str, &str); 7] = [
+const PAGES: &[(&str, &str, &str, &str, &str, &str)] = &[
     (
         "http://a.example/x?q",
         "http://a.example/x?q",
@@ -68,7 +68,7 @@ const PAGES: [(&str, &str, &str, &str, &str, &str); 7] = [
 
 #[test]
 fn both_schemes_are_read(rt: HostRuntime) -> Result<(), Fail> {
-    for (text, url, authority, host, target, robots) in &PAGES {
+    for (text, url, authority, host, target, robots) in PAGES {
         let page = PageUrl::parse_among(rt.alloc(), Schemes::HttpAndHttps, text)?;
         let parts = [page.text(), page.authority(), page.host(), page.target()];
         let is_read = parts == [*url, *authority, *host, *target];
@@ -87,7 +87,7 @@ fn has_robots(page: &PageUrl, url: &str) -> Result<bool, Fail> {
 
 #[test]
 fn http_alone_is_read(rt: HostRuntime) -> Result<(), Fail> {
-    for (text, url, authority, _host, _target, _robots) in &PAGES {
+    for (text, url, authority, _host, _target, _robots) in PAGES {
         let as_wanted = if url.starts_with("https://") {
             are_refused(rt.alloc(), text, authority)
         } else {

@@ -9,7 +9,7 @@ use http_wire::WireFault::{BadChunk, EarlyEnd};
 pub(super) const HEAD: &str = "HTTP/1.1 200 OK|Transfer-Encoding: chunked||";
 
 /// Bodies after the head.
-pub(super) const ROWS: [Row; 24] = [
+pub(super) const ROWS: &[Row] = &[
     ("two chunks", "3|abc|2|de|0||", 5, Whole(200, "abcde")),
     ("no chunk", "0||", 0, Whole(200, "")),
     (

@@ -8,7 +8,7 @@ use Want::Fresh;
 pub(super) const HEAD: &str = "HTTP/1.1 200 OK|";
 
 /// A final head's fields.
-pub(super) const FIELDS: [Row; 31] = [
+pub(super) const FIELDS: &[Row] = &[
     ("no field", "|", 9, Fresh(None)),
     (
         "quoted, behind another directive",
@@ -168,7 +168,7 @@ pub(super) const FIELDS: [Row; 31] = [
 ];
 
 /// Whole responses.
-pub(super) const RESPONSES: [Row; 5] = [
+pub(super) const RESPONSES: &[Row] = &[
     (
         "in an interim head",
         "HTTP/1.1 103 a|Cache-Control: max-age=5||HTTP/1.1 204 No||",

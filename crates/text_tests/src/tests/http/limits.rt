@@ -23,7 +23,7 @@ const INTERIM: &str = "HTTP/1.1 100 Continue||";
 const BODY: &str = "HTTP/1.0 200 OK||";
 
 /// The most lines without their end are bad at once: another line would be too many.
-pub(super) const LONG: [LongRow; 21] = [
+pub(super) const LONG: &[LongRow] = &[
     ("100 lines", HEAD, "A: b|", 100, "|", 9, Whole(200, "")),
     ("101 lines", HEAD, "A: b|", 101, "|", 9, Fault(HeadTooLong)),
     (
@@ -195,7 +195,7 @@ pub(super) const LONG: [LongRow; 21] = [
 pub(super) const REDIRECT: &str = "HTTP/1.1 302 Found|";
 
 /// A redirect's fields.
-pub(super) const LOCATIONS: [Row; 6] = [
+pub(super) const LOCATIONS: &[Row] = &[
     ("none", "A: b||", 9, Leads(None)),
     ("one", "Location: /s||", 9, Leads(Some("/s"))),
     (

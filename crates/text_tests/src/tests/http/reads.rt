@@ -46,29 +46,29 @@ fn gives_each_row_whatever_the_reads(rt: HostRuntime) -> Result<(), Fail> {
     give_stops(rt.alloc())
 }
 
-// (A table is a large value: whoever names one does nothing else.)
+// (A table is a slice: an array is a value that each function which names it holds whole, and proves its end.)
 fn give_whole_responses(alloc: Global) -> Result<(), Fail> {
-    give_rows(alloc, "", &responses::ROWS)
+    give_rows(alloc, "", responses::ROWS)
 }
 
 fn give_bodies_in_chunks(alloc: Global) -> Result<(), Fail> {
-    give_rows(alloc, chunks::HEAD, &chunks::ROWS)
+    give_rows(alloc, chunks::HEAD, chunks::ROWS)
 }
 
 fn give_fields(alloc: Global) -> Result<(), Fail> {
-    give_rows(alloc, freshness::HEAD, &freshness::FIELDS)
+    give_rows(alloc, freshness::HEAD, freshness::FIELDS)
 }
 
 fn give_ages(alloc: Global) -> Result<(), Fail> {
-    give_rows(alloc, "", &freshness::RESPONSES)
+    give_rows(alloc, "", freshness::RESPONSES)
 }
 
 fn give_redirects(alloc: Global) -> Result<(), Fail> {
-    give_rows(alloc, limits::REDIRECT, &limits::LOCATIONS)
+    give_rows(alloc, limits::REDIRECT, limits::LOCATIONS)
 }
 
 fn give_stops(alloc: Global) -> Result<(), Fail> {
-    give_rows(alloc, "", &stops::STOPS)
+    give_rows(alloc, "", stops::STOPS)
 }
 
 fn give_rows(alloc: Global, head: &str, rows: &[Row]) -> Result<(), Fail> {
@@ -171,7 +171,7 @@ fn fails_at(alloc: Global, octets: &[u8], call: u64) -> Result<bool, AllocError>
 // The source gives one octet a read, and fails after the last.
 #[test]
 fn reads_no_octet_more_than_it_needs(rt: HostRuntime) -> Result<(), Fail> {
-    stop_behind(rt.alloc(), &stops::STOPS)
+    stop_behind(rt.alloc(), stops::STOPS)
 }
 
 fn stop_behind(alloc: Global, rows: &[Row]) -> Result<(), Fail> {
@@ -190,7 +190,7 @@ fn stops_behind(alloc: Global, octets: Vec<u8>, limit: usize, want: Want) -> boo
 
 #[test]
 fn gives_each_long_row(rt: HostRuntime) -> Result<(), Fail> {
-    give_long_rows(rt.alloc(), &limits::LONG)
+    give_long_rows(rt.alloc(), limits::LONG)
 }
 
 fn give_long_rows(alloc: Global, rows: &[LongRow]) -> Result<(), Fail> {

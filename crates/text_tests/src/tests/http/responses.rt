@@ -13,7 +13,7 @@ pub(super) const CHUNKED: &str = "HTTP/1.1 200 OK|Transfer-Encoding: chunked||5|
 pub(super) const NO_CONTENT: &str = "HTTP/1.1 100 Continue||HTTP/1.1 204 No Content||";
 
 /// Whole responses.
-pub(super) const ROWS: [Row; 53] = [
+pub(super) const ROWS: &[Row] = &[
     ("counted", COUNTED, 9, Whole(200, "hello")),
     ("counted, over the limit", COUNTED, 3, Cut(200, "hel")),
     (

@@ -7,7 +7,7 @@ use WireFault::{BadChunk, BadHead, BadLength, Coding, TooManyInterim};
 use http_wire::WireFault;
 
 /// Each text, up to the last octet needed.
-pub(super) const STOPS: [Row; 26] = [
+pub(super) const STOPS: &[Row] = &[
     (
         "counted",
         "HTTP/1.1 200 OK|Content-Length: 5||hello",
