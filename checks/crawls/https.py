@@ -319,6 +319,27 @@ async def https_apart(opener, folder, contexts):
     return counts
 
 
+async def listen_with(site, address, take, **how):
+    """Has a site listen at a port that can be taken at another address too, and returns what took it there."""
+    for _ in range(50):
+        await site.listen(address, **how)
+        with contextlib.suppress(OSError):
+            return await take(site.port)
+        site.server.close()
+    raise AssertionError("no port is free at two addresses")
+
+
+async def held(address, port):
+    """Returns what keeps a port at which nobody listens then."""
+    keeper = socket.socket()
+    try:
+        keeper.bind((address, port))
+    except OSError:
+        keeper.close()
+        raise
+    return keeper
+
+
 async def https_two_addresses(opener, folder, contexts):
     """A name with two addresses, by a hosts file that the program alone sees: at one of them nobody listens, the first or the
     second, whichever the system tries first; or there is another certificate, and no request comes there."""
@@ -332,18 +353,19 @@ async def https_two_addresses(opener, folder, contexts):
         able = False
     if not able:
         raise Skipped("no namespace can be made for a hosts file")
-    sites, others = [], []
-    for address in ("127.0.0.1", "127.0.0.9"):
-        sites.append(Site(Replies(RULES, PAGE)))
-        await sites[-1].listen(address, context=contexts["good"], name=tls.TWO)
-    for address, other in (("127.0.0.1", "127.0.0.9"), ("127.0.0.9", "127.0.0.1")):
-        sites.append(Site(Replies(RULES, PAGE)))
-        await sites[-1].listen(address, context=contexts["good"], name=tls.TWO)
-        others.append(Site(Replies(RULES, PAGE)))
-        await others[-1].listen(other, sites[-1].port, contexts["self-signed"])
+    how, sites, keepers = {"context": contexts["good"], "name": tls.TWO}, [Site(Replies(RULES, PAGE)) for _ in range(4)], []
+    others = [Site(Replies(RULES, PAGE)) for _ in range(2)]
+    addresses = (("127.0.0.1", "127.0.0.9"), ("127.0.0.9", "127.0.0.1"))
+    for site, (address, other) in zip(sites[:2], addresses):
+        keepers.append(await listen_with(site, address, lambda port, at=other: held(at, port), **how))
+    for site, wrong, (address, other) in zip(sites[2:], others, addresses):
+        take = lambda port, it=wrong, at=other: it.listen(at, port, contexts["self-signed"])
+        await listen_with(site, address, take, **how)
     counts = await table_of([(site, "/x", GOOD) for site in sites], opener, folder, before)
     for other in others:
         other.server.close()
+    for it in keepers:
+        it.close()
     found = [asked(site) for site in sites + others]
     assert found == [(1, ["/x"])] * 4 + [(0, [])] * 2, found
     return counts
