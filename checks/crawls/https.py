@@ -253,7 +253,7 @@ async def https(opener, folder, contexts):
     mute = await site_of(None, kind=Mute)
     mute.scheme = "https"
     gone = await site_of(answer, contexts["good"])
-    gone.server.close()
+    gone.leave()
     ends = [(good, "/x", GOOD), (good, "/private", DENIED), (mute, "/x", MUTE)]
     counts = await table_of(ends + [(site, "/x", NO_TLS) for site in [*bad, gone]], opener, folder)
     assert [asked(site) for site in bad] == [(0, [])] * 4, [asked(site) for site in bad]

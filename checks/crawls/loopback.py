@@ -1,5 +1,6 @@
 """What the crawls of checks/crawls are made with: sites on the loopback, what they answer, and a shift over them."""
 import asyncio
+import socket
 import time
 
 from lib.costly import FEW_RUNS
@@ -37,6 +38,12 @@ class Site:
         self.port = self.server.sockets[0].getsockname()[1]
         self.address = f"{name or host}:{self.port}"
         self.scheme = "https" if context else "http"
+
+    def leave(self):
+        """Listens no more. Its port stays taken, so that no other check listens there."""
+        self.server.close()
+        self.server = socket.socket()
+        self.server.bind(("127.0.0.1", self.port))
 
     async def serve(self, reader, writer):
         try:
