@@ -169,7 +169,10 @@ class Verdicts:
         and the libraries below it as they are built; or None where nothing can be kept."""
         if not self.at:
             return None
-        return sum_of(self.judge, rt.own_sum(crate), [(it.name, self.built(it)) for it in crate.below()], more)
+        # (a library that is made anew meanwhile gives no key)
+        with contextlib.suppress(FileNotFoundError):
+            return sum_of(self.judge, rt.own_sum(crate), [(it.name, self.built(it)) for it in crate.below()], more)
+        return None
 
     def is_drawn(self, key):
         return int(sum_of(key, self.draw)[:8], 16) % AGAIN == 0
