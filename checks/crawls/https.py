@@ -10,7 +10,8 @@ from headers import https_headers
 from lib import tls
 from lib.cases import Skipped
 from lib.sites import reset
-from loopback import NO_ROBOTS, PAGE, RULES, Replies, Site, answer, crawl, redirect
+from ends import https_ends
+from loopback import NO_ROBOTS, PAGE, Replies, Site, answer, crawl, redirect, whole
 
 # what the table says of a job: outcome, status, octets, cause
 GOOD = ("PAGE", "200", "5", "norule")
@@ -21,7 +22,7 @@ CUT = ("FAULT", "", "", "ended early")
 DENIED = ("NO", "", "", "line 2")
 LARGE = 300_000
 LINES = "lines of a table of https"
-DENY_ALL = RULES.replace(b"/private", b"/")
+RULES, DENY_ALL = (whole(b"user-agent: *\ndisallow: %s\n" % path) for path in (b"/private", b"/"))
 # starts a program under another /etc/hosts that nobody else sees, which needs no rights but those to make a namespace
 UNDER_HOSTS = ["unshare", "--map-root-user", "--mount", "sh", "-c", 'mount --bind "$1" /etc/hosts && shift && exec "$@"', "sh"]
 
@@ -376,4 +377,4 @@ CASES = {
     https_headers: "headers to what opens TLS",
 }
 OPENERS = [through(tls.by_stand_in), through(tls.by_haproxy, "haproxy")]
-CRAWLS = [https_opener_gone, https_by_scripts] + [made(case, what) for made in OPENERS for case, what in CASES.items()]
+CRAWLS = [https_opener_gone, https_by_scripts, https_ends] + [made(case, what) for made in OPENERS for case, what in CASES.items()]

@@ -19,6 +19,11 @@ async def answer(site, writer, target):
     writer.write(NO_ROBOTS if target == "/robots.txt" else PAGE)
 
 
+def whole(body):
+    """A response with the length of its body."""
+    return b"HTTP/1.1 200 OK\r\nContent-Length: %d\r\n\r\n" % len(body) + body
+
+
 def redirect(location):
     return b"HTTP/1.1 301 On\r\nLocation: " + location + b"\r\nContent-Length: 0\r\n\r\n"
 

@@ -233,7 +233,7 @@ def tls_is_turned_away():
 
 
 def client_with_bounds():
-    """One client gets two permits, and makes two sites known; the next one as many."""
+    """One client gets two permits, and makes two sites known; the next one as many. Sites that are known go on."""
     sites = [open_site() for _ in range(3)]
     known, other, third = (it.authority for it in sites)
     moved = open_site({"/x": response(302, b"", f"Location: {sites[2].url('/x')}")})
@@ -246,14 +246,25 @@ def client_with_bounds():
             same(it.say_all(["DONE 65536", f"ASK foobot {x}"]), ["DONE 65536", "PERMIT 131072"])
             # a site that is known already counts once
             same(it.say_all([f"REFRESH {known}", f"REFRESH {other}"]), [f"TAKEN {known} open", f"TAKEN {other} open"])
-            same(it.say_all([f"REFRESH {third}", f"REFRESH {known}"]), ["ERR authorities"] * 2)
-            it.send(f"FETCH foobot {x}\n".encode())
-            same(it.lines(3), ["HOP 1 ERR authorities", "BODY 0", ""])
+            same(it.say_all([f"REFRESH {third}", f"REFRESH {known}"]), ["ERR authorities", f"TAKEN {known} open"])
+            same(fetched(it, sites[2].url("/x"), 3), ["HOP 1 ERR authorities", "BODY 0", ""])
+            same(fetched(it, x, 3), ["HOP 1 PAGE open 200 5 whole", "BODY 5", "hello"])
+        same((sites[2].asked, sites[0].asked[-1]), ([], "/x"))
         with Session(server) as it:
-            it.send(f"FETCH foobot {moved.url('/x')}\n".encode())
-            same(it.lines(4), ["HOP 1 PAGE open 302 0 whole", "HOP 2 PAGE open 200 5 whole", "BODY 5", "hello"])
-            same(it.say(f"REFRESH {known}"), "ERR authorities")
+            # a redirect to a site that would become known as the third
+            same(it.say(f"REFRESH {open_site().authority}").split(" ")[0], "TAKEN")
+            same(fetched(it, moved.url("/x"), 4), ["HOP 1 PAGE open 302 0 whole", "HOP 2 ERR authorities", "BODY 0", ""])
+            same(it.say(f"STATE {third}"), f"STATE {third} unknown idle")
+        with Session(server) as it:
+            same(fetched(it, moved.url("/x"), 4), ["HOP 1 PAGE open 302 0 whole", "HOP 2 PAGE open 200 5 whole", "BODY 5", "hello"])
+            same(it.say(f"REFRESH {known}"), f"TAKEN {known} open")
             same(it.say("QUIT"), "BYE")
+
+
+def fetched(it, url, count):
+    """Returns so many lines of the reply to a FETCH."""
+    it.send(f"FETCH foobot {url}\n".encode())
+    return it.lines(count)
 
 
 def patience_with_good_clients():

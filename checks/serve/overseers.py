@@ -113,6 +113,31 @@ def seal_port_beside_clients():
         same(server.end(), (b"SERVED connections 2 events 5\n", 0, b""))
 
 
+def silent_overseer_leaves():
+    """An overseer who is silent for five seconds, or sends half a line and stays, leaves its place to the next one; one who
+    sends lines goes on, and so does a silent one for whom nobody waits."""
+    with Overseen() as server, Session(server) as it:
+        same(it.say("ASK foobot http://a.example/"), "NO a.example unknown")
+        for sent in (b"", b"INF"):
+            with server.overseer() as silent, server.overseer() as next_one:
+                silent.send(sent)
+                began = time.monotonic()
+                sealed(next_one)
+                in_time(time.monotonic() - began, 7)
+                same(silent.lines(1), [])
+                same(next_one.say("QUIT"), "BYE")
+        with server.overseer() as busy, server.overseer() as next_one:
+            next_one.send(b"STATE a.example\n")
+            for _ in range(4):
+                time.sleep(2)
+                same(busy.say("STATE b.example"), "STATE b.example unknown idle")
+            same(next_one.is_answered(), False)
+            same(busy.say("QUIT"), "BYE")
+            same(next_one.lines(1), ["STATE a.example unknown idle"])
+            time.sleep(6)
+            same(next_one.say("QUIT"), "BYE")
+
+
 def seal_port_with_a_journal():
     """A seal there begins the journal's next file."""
 
@@ -142,4 +167,6 @@ def seal_port_that_is_taken():
         same((output, status), (f"crawlgate: device: port {server.port}: address in use\n".encode(), 3))
 
 
-CASES = [why_an_answer_stands, client_asks_why, seal_port_beside_clients, seal_port_with_a_journal, seal_port_that_is_taken]
+CASES = [
+    why_an_answer_stands, client_asks_why, seal_port_beside_clients, silent_overseer_leaves, seal_port_with_a_journal, seal_port_that_is_taken,
+]

@@ -147,10 +147,12 @@ def a_file_that_is_cut_anywhere():
 
 
 def goes_on_from_the_last_file():
-    """The last file is the one behind most entries, whichever was written last; with no file the folder is begun."""
+    """The last file is the one behind most entries, whichever was written last, and only the one before it is read, too;
+    with no file the folder is begun."""
     with tempfile.TemporaryDirectory() as folder:
         put(folder, FIRST, "V 2\nx\n")
         put(folder, f"{20:020}", "V 3\nT 20 0 1 100\nH a.example 1 100 O unavailable\nE\n")
+        put(folder, f"{18:020}", "V 3\nT 18 0 0 100\nE\nB 100 a.example 1\nA 100 a.example 1 O unavailable\n")
         put(folder, f"{3:020}", "V 3\nx\n")
         with Recorded(folder, "--connections", "1") as server, Session(server) as it:
             same(it.say("WHY a.example"), "WHY a.example 1 100 O unavailable")
@@ -169,12 +171,13 @@ def goes_on_from_the_last_file():
 
 def a_line_that_is_wrong():
     """A whole line that no history has ends the start, and nothing is written."""
+    based = "V 3\nT 3 0 1 100\nL 0 1\n"
     rows = [
         (WHOLE + "K 65537\n", "line 5 is wrong"),
         (WHOLE + "G 101 65537 foobot http://a.example/\nK 65536\n", "line 5 is wrong"),
         (WHOLE.replace("B 100", "B 0100"), "line 2 is wrong"),
         ("x\n" + WHOLE, "line 1 is wrong"),
-        ("V 3\nT 3 0 1 100\nL 0 1\n", "ends at line 4, before its entries begin"),
+        (based, "line 1 is wrong"),
         ("", "ends at line 1, before its entries begin"),
     ]
     for text, told in rows:
@@ -182,6 +185,11 @@ def a_line_that_is_wrong():
             put(folder, FIRST, text)
             same(refused(f"{folder}/journal"), f'crawlgate: journal: "{folder}/journal/{FIRST}" {told}\n')
             same(text_of(f"{folder}/journal"), text)
+    with tempfile.TemporaryDirectory() as folder:
+        put(folder, f"{3:020}", based)
+        told = refused(f"{folder}/journal")
+        same(told.splitlines()[-1], f'crawlgate: journal: "{folder}/journal/{3:020}" ends at line 4, before its entries begin')
+        same(text_of(f"{folder}/journal"), based)
 
 
 def files_that_are_none_of_a_journal():

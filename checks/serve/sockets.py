@@ -4,11 +4,16 @@ import socket
 import stat
 import subprocess
 import tempfile
+from types import SimpleNamespace
 
 from lib.cases import same
 from lib.server import SECONDS, Server, Session
 from lib.sites import open_site
 from clients import client_of
+from sessions import sealed
+
+# the user and the group `nobody`
+NOBODY = 65534
 
 
 def loopback_alone():
@@ -64,14 +69,15 @@ def clients_at_a_socket():
 
 def socket_of_its_owner():
     """Its mode is 0600; a server that listens keeps it, one that was killed leaves it to the next, and no other file is
-    taken for one."""
+    taken for one, nor is there a name that somebody else could have taken before it."""
     with tempfile.TemporaryDirectory() as folder:
         path, other = f"{folder}/gate", f"{folder}/other"
+        os.makedirs(f"{path}.new/socket")
         with open(other, "w") as file:
             file.write("of somebody else")
         with Server(path=path) as server, Session(server) as it:
             same(stat.filemode(os.stat(path).st_mode), "srw-------")
-            same(sorted(os.listdir(folder)), ["gate", "other"])
+            same(sorted(os.listdir(folder)), ["gate", "gate.new", "other"])
             same((refused(path, "address in use"), refused(other, "address in use")), (True, True))
             same(refused(f"{folder}/none/gate", "entity not found"), True)
             same(it.say("STATE a.example"), "STATE a.example unknown idle")
@@ -81,9 +87,58 @@ def socket_of_its_owner():
                 it.send(b"URL http://A.example/%7e\nQUIT\n")
                 same(it.rest(), b"URL http://a.example/%7e\nBYE\n")
             same(server.end(), (b"SERVED connections 1 events 0\n", 0, b""))
-        same(sorted(os.listdir(folder)), ["other"])
+        same(sorted(os.listdir(folder)), ["gate.new", "other"])
         with open(other) as file:
             same(file.read(), "of somebody else")
 
 
-CASES = [loopback_alone, port_that_is_taken, socket_of_its_owner, clients_at_a_socket]
+class Overseen(Server):
+    """A server at a socket, with another one for who sees to the gate, which its second line tells."""
+
+    def __init__(self, folder, *words):
+        self.seals = f"{folder}/seals"
+        super().__init__("--seal-socket", self.seals, *words, path=f"{folder}/gate")
+        same(self.process.stdout.readline(), f"SEAL {self.seals}\n".encode())
+
+    def overseer(self):
+        return Session(SimpleNamespace(path=self.seals))
+
+
+def is_shut_to_others(path):
+    """Returns whether the user `nobody` can't connect to a socket. Only root can try it."""
+    child = os.fork()
+    if not child:
+        try:
+            os.setgroups([])
+            os.setgid(NOBODY)
+            os.setuid(NOBODY)
+            socket.socket(socket.AF_UNIX).connect(path)
+        except PermissionError:
+            os._exit(0)
+        finally:
+            os._exit(1)
+    return os.waitstatus_to_exitcode(os.waitpid(child, 0)[1]) == 0
+
+
+def overseers_at_a_socket():
+    """The socket of who sees to the gate is its owner's alone, too; it has five verbs, and goes at the end."""
+    with tempfile.TemporaryDirectory() as folder:
+        os.chmod(folder, 0o755)
+        with Overseen(folder, "--connections", "1") as server, Session(server) as it, server.overseer() as other:
+            same([stat.filemode(os.stat(path).st_mode) for path in (server.path, server.seals)], ["srw-------"] * 2)
+            for path in (server.path, server.seals) if os.geteuid() == 0 else ():
+                assert is_shut_to_others(path), path
+            same(it.say("ASK foobot http://a.example/"), "NO a.example unknown")
+            same([other.say(line) for line in ("ASK foobot http://a.example/", "FETCH foobot http://a.example/")], ["ERR verb"] * 2)
+            same(len(sealed(other)), 2)
+            same((other.say("QUIT"), it.say("QUIT")), ("BYE", "BYE"))
+            same(server.end(), (b"SERVED connections 1 events 1\n", 0, b""))
+        same(os.listdir(folder), [])
+        words = [Server.program, "serve", "--socket", f"{folder}/gate", "--seal-socket", f"{folder}/gate"]
+        ran = subprocess.run(words, capture_output=True, timeout=SECONDS)
+        told = f"crawlgate: device: socket {folder}/gate: address in use\n".encode()
+        same((ran.stdout, ran.returncode, ran.stderr), (b"", 3, told))
+        same(os.listdir(folder), [])
+
+
+CASES = [loopback_alone, port_that_is_taken, socket_of_its_owner, clients_at_a_socket, overseers_at_a_socket]

@@ -13,6 +13,10 @@ patience_seconds = 300
 abbrev pub IsPatience : ℕ → Type 0
 IsPatience seconds = (1 ≤ seconds) × (seconds ≤ patience_seconds)
 
+-- how long reads wait for a client between two line ends while another one waits for its place, in seconds
+abbrev pub silent_seconds : ℕ
+silent_seconds = 5
+
 -- the nanoseconds of these seconds
 abbrev pub nanoseconds : ℕ → ℕ
 nanoseconds seconds = seconds * 1_000_000_000
@@ -53,5 +57,11 @@ BringsLineEnd result octets = IsOkAnd result (λ count. Contains (take count oct
 -- a waiting read: the time restarts with an LF, and never falls otherwise
 pub record ReadWaits {E : Type 0} (old : Waiting) (result : Result ℕ E) (octets : List ℕ) (new : Waiting) : Type 0 where
   pub fails : IsOver old → IsErr result
+  pub line_end : BringsLineEnd result octets → IsNew (as_nanos old.patience) new
+  pub no_less : BringsLineEnd result octets ⊎ WaitsNoLess old new
+
+-- a read by a client whose place others may wait for: its silence restarts with an LF, and never falls otherwise
+pub record CountsSilence {E : Type 0} (old : Waiting) (result : Result ℕ E) (octets : List ℕ) (new : Waiting)
+    : Type 0 where
   pub line_end : BringsLineEnd result octets → IsNew (as_nanos old.patience) new
   pub no_less : BringsLineEnd result octets ⊎ WaitsNoLess old new

@@ -150,7 +150,8 @@ fn has_nothing_yet(error: &io::Error) -> bool {
     matches!(error.kind(), ErrorKind::Interrupted | ErrorKind::WouldBlock)
 }
 
-fn has_line_end(octets: &[u8]) -> bool
+/// Whether a line ends among these octets.
+pub(crate) fn has_line_end(octets: &[u8]) -> bool
     ensures { IsTrue result ↔ Contains octets.now 10 }
 {
     octets.contains(&b'\n')

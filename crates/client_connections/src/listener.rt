@@ -8,6 +8,7 @@ use std::io::ErrorKind;
 use std::net::{Ipv4Addr, Net, Shutdown, SocketAddr, TcpListener, TcpStream};
 use std::os::fd::OwnedFd;
 use std::os::unix::net::UnixListener;
+use std::random::RandomSource;
 use std::{io, thread, time};
 
 /// Where clients of this machine connect: a loopback port, or a socket file.
@@ -32,7 +33,11 @@ impl Listener {
 
     /// Listens at a socket file of this path, which only its owner can open (mode 0600). A socket left by a
     /// dead server is replaced; `AddrInUse` if a server still listens, or if the file is no socket.
-    pub fn bind_socket<R: Files + Net>(rt: &R, alloc: Global, path: &str) -> io::Result<Listener> {
+    pub fn bind_socket<R: Files + Net + RandomSource>(
+        rt: &R,
+        alloc: Global,
+        path: &str,
+    ) -> io::Result<Listener> {
         Ok(Listener(Endpoint::File(socket_file::bind(rt, alloc, path)?)))
     }
 
@@ -58,6 +63,21 @@ impl Listener {
     /// reads, writes and timeouts are the same calls of a descriptor.
     pub fn accept<R: time::Clock>(&self, rt: &R) -> Result<TcpStream, AcceptFault> {
         accept_from(rt, self)
+    }
+
+    /// The connection of a client who waits already, if any. No other thread may accept meanwhile.
+    pub fn accept_at_hand(&self) -> Option<TcpStream> {
+        self.set_nonblocking(true).ok()?;
+        let accepted = self.accept_next();
+        let _ = self.set_nonblocking(false);
+        accepted.ok()
+    }
+
+    fn set_nonblocking(&self, nonblocking: bool) -> io::Result<()> {
+        match &self.0 {
+            Endpoint::Port(listener) => listener.set_nonblocking(nonblocking),
+            Endpoint::File(listener) => listener.set_nonblocking(nonblocking),
+        }
     }
 }
 

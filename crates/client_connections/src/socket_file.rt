@@ -1,12 +1,13 @@
 //! A socket file that only its owner can open.
 //! Made by `Listener::bind_socket`.
 
-use std::alloc::Global;
+use std::alloc::{AllocError, Global};
 use std::fs::{DirBuilder, Files, Permissions};
 use std::io::ErrorKind;
 use std::net::Net;
 use std::os::unix::fs::{DirBuilderExt, FileTypeExt, PermissionsExt};
 use std::os::unix::net::{UnixListener, UnixStream};
+use std::random::RandomSource;
 use std::{fs, io};
 
 // Only its owner reads and writes it.
@@ -15,13 +16,29 @@ const OWNERS_FILE: u32 = 0o600;
 // Only its owner can enter it.
 const OWNERS_FOLDER: u32 = 0o700;
 
-/// Listens at a socket of this path. The socket is made in a folder beside it, `PATH.new`, which only its
-/// owner can enter, so nobody else can open it before its mode is set; then it is moved.
-pub(crate) fn bind<R: Files + Net>(rt: &R, alloc: Global, path: &str) -> io::Result<UnixListener> {
+/// Listens at a socket of this path. The socket is made in a folder beside it, which only its owner can
+/// enter, so nobody else can open it before its mode is set; then it is moved. The folder's name is drawn,
+/// so that nobody who may write there can have taken it.
+pub(crate) fn bind<R: Files + Net + RandomSource>(
+    rt: &R,
+    alloc: Global,
+    path: &str,
+) -> io::Result<UnixListener> {
     refuse_taken(rt, path)?;
-    let folder = format!(in alloc; "{path}.new")?;
-    let made = format!(in alloc; "{folder}/socket")?;
+    let folder = folder_beside(alloc, path, drawn(rt)?)?;
+    let made = format!(in alloc; "{folder}/s")?;
     bind_by(rt, folder.as_str(), made.as_str(), path)
+}
+
+// A number that nobody can guess.
+fn drawn<R: RandomSource>(rt: &R) -> io::Result<u32> {
+    let mut octets = [0; 4];
+    rt.fill_bytes(&mut octets)?;
+    Ok(u32::from_le_bytes(octets))
+}
+
+fn folder_beside(alloc: Global, path: &str, number: u32) -> Result<String, AllocError> {
+    format!(in alloc; "{path}.{number:08x}")
 }
 
 // Makes the socket in this folder, which is there only meanwhile.
@@ -31,8 +48,6 @@ fn bind_by<R: Files + Net>(
     made: &str,
     path: &str,
 ) -> io::Result<UnixListener> {
-    // (what a server killed meanwhile has left is made anew)
-    clear(rt, folder, made);
     DirBuilder::new().mode(OWNERS_FOLDER).create(rt, folder)?;
     let bound = bind_within(rt, made, path);
     clear(rt, folder, made);

@@ -4,6 +4,7 @@ mod accepts;
 mod partings;
 mod patience;
 mod scripted;
+mod seats;
 mod turns;
 
 use std::test::Fail;

@@ -18,6 +18,6 @@ mod turns;
 pub use crawl_job::{Hop, Job, Outcome, Refusal};
 pub use fetchers::{Fetcher, PageLeave, RobotsLeave, TcpFetcher};
 pub use http_client::{Deadline, Failure, TimeLimits};
-pub use page_worker::{Clock, ClosedBy, Event, SystemClock, refresh, work};
+pub use page_worker::{Clock, ClosedBy, Event, refresh, work};
 pub use report::{Crawled, Report, ShiftFault, Watcher};
 pub use shift::{run_later_shift, run_shift, run_shift_paced};

@@ -3,7 +3,7 @@
 ghost use Rattle.program_arguments.specs.Contacts.{IsAllowedContact};
 
 use crawl_workers::TcpFetcher;
-use http_client::{Reach, TimeLimits};
+use http_client::{AddressBlock, Reach, TimeLimits};
 use program_arguments::Contact;
 use std::alloc::AllocError;
 use std::net::SocketAddr;
@@ -11,18 +11,33 @@ use std::net::SocketAddr;
 // The agent for robots.txt files. Pages have their job's token.
 const AGENT: &[u8] = b"crawlgate";
 
-/// A fetcher with these time limits and this reach, for https too if a program opens TLS, and with a
-/// contact if given.
+/// How fetches reach sites.
+#[derive(Clone, Copy)]
+pub(crate) struct Ways<'a> {
+    /// The time limits of fetches.
+    pub(crate) times: TimeLimits,
+    /// The addresses that they may reach.
+    pub(crate) reach: Reach,
+    /// The addresses that they never reach.
+    pub(crate) not_to: &'a [AddressBlock],
+    /// The address of the program that opens TLS; without one only `http` is fetched.
+    pub(crate) tls_by: Option<SocketAddr>,
+    /// How many octets of robots texts are kept together, if that is bounded.
+    pub(crate) texts: Option<u64>,
+}
+
+/// A fetcher by these ways, with a contact if given.
 pub(crate) fn new_fetcher(
     host: &HostRuntime,
-    times: TimeLimits,
-    reach: Reach,
-    tls_by: Option<SocketAddr>,
+    ways: Ways<'_>,
     contact: &Contact,
 ) -> Result<TcpFetcher<HostRuntime>, AllocError>
     requires { IsAllowedContact contact.now }
 {
-    let fetcher = TcpFetcher::with_tls(host.alloc(), *host, AGENT, times, reach, tls_by)?;
+    let alloc = host.alloc();
+    let fetcher = TcpFetcher::with_tls(alloc, *host, AGENT, ways.times, ways.reach, ways.tls_by)?;
+    let fetcher = fetcher.avoiding(Vec::from_slice(alloc, ways.not_to)?);
+    let fetcher = fetcher.keeping(ways.texts.unwrap_or(u64::MAX));
     match contact {
         Contact::Untold => Ok(fetcher),
         Contact::Text(text) => fetcher.with_contact(text.as_bytes()),

@@ -9,25 +9,28 @@ use counted_io::Counted;
 use gate_clock::{Beginning, SteadyClock};
 use gate_core::{Book, Limits};
 use gate_lock::{Gate, Receipts};
-use journal_files::{Folder, JournalFault, LastFile, SyncPolicy};
+use journal_files::{Folder, Joined, JournalFault, LastFile, SyncPolicy};
 use journal_resume::{ResumeFault, Resumed, resume};
 use path_normal::{Authority, Schemes};
 use program_arguments::JournalOptions;
 use program_commands::{
-    Ending, Reasoned, new_book, tell_bad_folder, tell_bad_journal, tell_clock_set_back,
-    tell_few_slots, tell_full_journal, tell_short_journal, tell_torn_line, tell_unread_journal,
+    Ending, Reasoned, new_book, tell_bad_folder, tell_bad_journal, tell_begins_alone,
+    tell_clock_set_back, tell_few_slots, tell_full_journal, tell_short_journal, tell_torn_line,
+    tell_unread_journal,
 };
+use std::fs::File;
 use std::hash::RandomState;
 use std::io::ErrorKind;
 use std::sync::Wait;
 use std::{io, time};
 
-/// The locked folder of a journal, with its name and sync policy.
+/// The locked folder of a journal, with its name, its sync policy, and how many octets it may have.
 #[derive(Drop)]
 pub(crate) struct OpenJournal<'a> {
     pub(crate) name: &'a str,
     pub(crate) folder: Folder<HostRuntime>,
     pub(crate) sync: SyncPolicy,
+    pub(crate) room: Option<u64>,
 }
 
 /// A gate's beginning: its book, and the sites whose robots.txt files to fetch anew.
@@ -58,6 +61,7 @@ pub(crate) fn open_journal<'a>(
             name,
             folder,
             sync: options.sync,
+            room: options.room,
         })),
         Err(fault) => Err(tell_bad_folder(host, name, fault)),
     }
@@ -77,9 +81,9 @@ pub(crate) fn begin_with(
         return begin_new(host, limits);
     };
     match journal.folder.last_file() {
-        Ok(Some(file)) => go_on(host, limits, file),
+        Ok(Some(file)) => go_on_if_named(host, limits, file),
         Ok(None) => begin_new(host, limits),
-        Err(cause) => Err(tell_unread_journal(host, Some(cause))),
+        Err(fault) => Err(tell_bad_folder(host, journal.name, fault)),
     }
 }
 
@@ -110,7 +114,27 @@ pub(crate) fn clock_of<'a, R: Wait + time::Clock>(
     clock
 }
 
-// Reads a journal's last file, and ends its text.
+// Goes on from a journal's last file if its name, and that of the file before, say what they begin with.
+fn go_on_if_named(
+    host: &HostRuntime,
+    limits: Limits,
+    file: LastFile,
+) -> Result<JournalStart, Ending>
+    requires { AreLimits limits }
+    ensures { IfOk result (λ begun. IsIdle begun.book) }
+{
+    match file.misnamed() {
+        Ok(None) => {}
+        Ok(Some(wrong)) => return Err(tell_bad_journal(host, wrong.path, wrong.line)),
+        Err(cause) => return Err(tell_unread_journal(host, Some(cause))),
+    }
+    if let Some(entries) = file.begins_alone() {
+        tell_begins_alone(host, file.path(), entries);
+    }
+    go_on(host, limits, file)
+}
+
+// Reads a journal's last file behind the one before it, and ends its text.
 fn go_on(host: &HostRuntime, limits: Limits, file: LastFile) -> Result<JournalStart, Ending>
     requires { AreLimits limits }
     ensures { IfOk result (λ begun. IsIdle begun.book) }
@@ -118,34 +142,43 @@ fn go_on(host: &HostRuntime, limits: Limits, file: LastFile) -> Result<JournalSt
     let Ok(keys) = RandomState::new(host) else {
         return Err(Ending::Device);
     };
-    let mut reader = Counted::new(Reasoned::new(file.text()));
-    match resume(
+    let mut text = file.text();
+    let mut reader = Counted::new(Reasoned::new(&mut text));
+    let resumed = resume(
         host.alloc(),
         keys,
         Schemes::HttpAndHttps,
         limits,
         &mut reader,
-    ) {
-        Ok(resumed) => end_file(host, file, resumed),
-        Err(fault) => {
-            let reason = reader.into_inner().reason;
-            Err(tell_fault(host, file.path(), fault, reason))
-        }
+    );
+    let reason = reader.into_inner().reason;
+    match resumed {
+        Ok(resumed) => match text.in_last(resumed.whole) {
+            Some(whole) => end_file(host, file, resumed, whole),
+            // The last file has no whole line.
+            None => Err(tell_short_journal(host, file.path(), 1)),
+        },
+        Err(fault) => Err(tell_fault(host, &file, &text, fault, reason)),
     }
 }
 
-// Ends the text of a journal's last file, from which the gate continues.
-fn end_file(host: &HostRuntime, file: LastFile, resumed: Resumed) -> Result<JournalStart, Ending>
+// Ends the text of a journal's last file after so many octets, from which the gate continues.
+fn end_file(
+    host: &HostRuntime,
+    file: LastFile,
+    resumed: Resumed,
+    whole: u64,
+) -> Result<JournalStart, Ending>
     requires { IsIdle resumed.book }
     ensures { IfOk result (λ begun. IsIdle begun.book) }
 {
     let Resumed {
         book,
-        whole,
+        whole: _,
         ending,
         begun,
     } = resumed;
-    if let Ok(about) = file.text().metadata() {
+    if let Ok(about) = file.file().metadata() {
         let torn = about.len().saturating_sub(whole);
         if torn > 0 {
             tell_torn_line(host, file.path(), torn);
@@ -158,19 +191,26 @@ fn end_file(host: &HostRuntime, file: LastFile, resumed: Resumed) -> Result<Jour
     }
 }
 
-// Reports why no gate can continue from a file.
+// Reports why no gate can continue from a file and the one before it.
 fn tell_fault(
     host: &HostRuntime,
-    file: &str,
+    file: &LastFile,
+    text: &Joined<&File, &File>,
     fault: ResumeFault,
     reason: Option<ErrorKind>,
 ) -> Ending {
     match fault {
-        ResumeFault::BadLine(line) => tell_bad_journal(host, file, line),
-        ResumeFault::NoEntries(line) => tell_short_journal(host, file, line),
-        ResumeFault::NoRoom(_) => tell_full_journal(host, file),
-        ResumeFault::Starts => tell_full_journal(host, file),
-        ResumeFault::Slots => tell_few_slots(host, file),
+        ResumeFault::BadLine(line) => {
+            let wrong = file.line_of(text.line(line));
+            tell_bad_journal(host, wrong.path, wrong.line)
+        }
+        ResumeFault::NoEntries(line) => {
+            let short = file.line_of(text.line(line));
+            tell_short_journal(host, short.path, short.line)
+        }
+        ResumeFault::NoRoom(_) => tell_full_journal(host, file.path()),
+        ResumeFault::Starts => tell_full_journal(host, file.path()),
+        ResumeFault::Slots => tell_few_slots(host, file.path()),
         ResumeFault::Read => tell_unread_journal(host, reason.map(io::Error::from)),
         ResumeFault::NoMemory => Ending::NoMemory,
     }

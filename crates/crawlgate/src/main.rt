@@ -13,7 +13,7 @@ ghost use Rattle.journal_resume.specs.Resuming.{IsIdle};
 ghost use Rattle.job_line.specs.Limits.{IsCrew, max_jobs};
 ghost use Rattle.program_arguments.specs.Options.{AreForShift};
 
-use crate::fetching::new_fetcher;
+use crate::fetching::{Ways, new_fetcher};
 use crate::journal::{JournalStart, OpenJournal, Past, begin_with, clock_of, open_journal};
 use crate::recorded_shift::shift_recorded;
 use crate::serving::serve;
@@ -59,13 +59,14 @@ fn shift<R: Threads + Wait + time::Clock + Sync>(
     requires { AreForShift options }
 {
     find_tls_program(host, options.tls_by, options.times.connect)?;
-    let Ok(fetcher) = new_fetcher(
-        host,
-        options.times,
-        options.reach,
-        options.tls_by,
-        &options.contact,
-    ) else {
+    let ways = Ways {
+        times: options.times,
+        reach: options.reach,
+        not_to: options.not_to.as_slice(),
+        tls_by: options.tls_by,
+        texts: None,
+    };
+    let Ok(fetcher) = new_fetcher(host, ways, &options.contact) else {
         return Err(Ending::NoMemory);
     };
     let journal = open_journal(host, &options.journal)?;

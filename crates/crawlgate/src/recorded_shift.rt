@@ -47,13 +47,18 @@ pub(crate) fn shift_recorded<
     journal: OpenJournal<'_>,
     told: ShiftOutput,
 ) -> Ending {
-    let OpenJournal { name, folder, sync } = journal;
+    let OpenJournal {
+        name,
+        folder,
+        sync,
+        room,
+    } = journal;
     let chronicle = Recording {
         alloc: shift.alloc,
         rt: shift.rt,
         gate,
     };
-    match GroupJournal::begin(shift.alloc, &chronicle, folder, sync) {
+    match GroupJournal::begin(shift.alloc, &chronicle, folder, sync, room) {
         Ok(journal) => {
             let recorded = RecordedShift {
                 chronicle: &chronicle,

@@ -4,7 +4,7 @@ ghost use Rattle.journal_resume.specs.Resuming.{IsIdle};
 ghost use Rattle.job_line.specs.Limits.{IsCrew};
 ghost use Rattle.program_arguments.specs.Options.{AreForServe};
 
-use crate::fetching::new_fetcher;
+use crate::fetching::{Ways, new_fetcher};
 use crate::journal::{JournalStart, OpenJournal, Past, begin_with, clock_of, open_journal};
 use crate::tls_program::find_tls_program;
 use client_connections::Listener;
@@ -17,7 +17,7 @@ use line_server::{Alarm, ServeFault, Served, Server};
 use program_arguments::{Ahead, ListenAddress, ServeOptions};
 use program_commands::{
     Ending, tell_failed_journal, tell_full_log, tell_listening, tell_listening_at, tell_no_place,
-    tell_sealing, tell_served,
+    tell_sealing, tell_sealing_at, tell_served,
 };
 use std::marker::Brand;
 use std::sync::Wait;
@@ -88,15 +88,17 @@ fn serve_at<R: Threads + Wait + time::Clock + Sync>(
     requires options { AreForServe options.now }
     requires book { IsIdle begun.book }
 {
-    let Some(port) = options.seal_port else {
+    let Some(place) = &options.seal_place else {
         return serve_clients(rt, host, options, begun, listener, None, journal);
     };
-    match Listener::bind(host, port) {
+    match listen(host, place) {
         Ok(overseers) => {
             let overseers = Some(&overseers);
-            serve_clients(rt, host, options, begun, listener, overseers, journal)
+            let ending = serve_clients(rt, host, options, begun, listener, overseers, journal);
+            leave(host, place);
+            ending
         }
-        Err(error) => tell_no_place(host, &ListenAddress::Port(port), &error),
+        Err(error) => tell_no_place(host, place, &error),
     }
 }
 
@@ -110,17 +112,24 @@ fn listen(host: &HostRuntime, place: &ListenAddress) -> io::Result<Listener> {
 // Reports where it listens: only the listener knows the free port that it got.
 fn tell_places(
     host: &HostRuntime,
-    place: &ListenAddress,
+    options: &ServeOptions,
     clients: &Listener,
     overseers: Option<&Listener>,
 ) -> Ending {
-    let told = tell_place(host, place, clients);
-    match (told, overseers) {
-        (Ending::Done, Some(overseers)) => match overseers.port() {
-            Ok(port) => tell_sealing(host, port),
-            Err(_) => Ending::Device,
-        },
+    let told = tell_place(host, &options.place, clients);
+    match (told, &options.seal_place, overseers) {
+        (Ending::Done, Some(place), Some(overseers)) => tell_seal_place(host, place, overseers),
         _ => told,
+    }
+}
+
+fn tell_seal_place(host: &HostRuntime, place: &ListenAddress, listener: &Listener) -> Ending {
+    if let ListenAddress::Socket(path) = place {
+        return tell_sealing_at(host, path.as_str());
+    }
+    match listener.port() {
+        Ok(port) => tell_sealing(host, port),
+        Err(error) => tell_no_place(host, place, &error),
     }
 }
 
@@ -154,13 +163,14 @@ fn serve_clients<R: Threads + Wait + time::Clock + Sync>(
     requires options { AreForServe options.now }
     requires book { IsIdle begun.book }
 {
-    match new_fetcher(
-        host,
-        options.times,
-        options.reach,
-        options.tls_by,
-        &options.contact,
-    ) {
+    let ways = Ways {
+        times: options.times,
+        reach: options.reach,
+        not_to: options.not_to.as_slice(),
+        tls_by: options.tls_by,
+        texts: options.texts,
+    };
+    match new_fetcher(host, ways, &options.contact) {
         Ok(fetcher) => {
             let server = Server {
                 rt,
@@ -175,12 +185,13 @@ fn serve_clients<R: Threads + Wait + time::Clock + Sync>(
                 patience: Duration::from_secs(options.patience),
                 ahead: ahead_of(options.ahead),
                 bounds: Bounds {
-                    permits: options.client_permits,
-                    authorities: options.client_authorities,
+                    permits: options.client_permits.unwrap_or(u64::MAX),
+                    authorities: options.client_authorities.unwrap_or(u64::MAX),
+                    entries: options.client_entries.unwrap_or(u64::MAX),
                 },
             };
             let blanks = Blanks::new();
-            run_over::<Brand, _, _, _, _>(host, &options.place, &server, begun, blanks, journal)
+            run_over::<Brand, _, _, _, _>(host, options, &server, begun, blanks, journal)
         }
         Err(_) => Ending::NoMemory,
     }
@@ -203,7 +214,7 @@ fn run_over<
     R: Threads + Wait + time::Clock + Sync,
 >(
     host: &HostRuntime,
-    place: &ListenAddress,
+    options: &ServeOptions,
     server: &Server<'_, F, C, A, R>,
     begun: JournalStart,
     blanks: Blanks,
@@ -217,8 +228,8 @@ fn run_over<
     let (gate, receipts) = GateLock::<G>::resume(server.alloc, book, blanks);
     let past = Past { receipts, sites };
     match journal {
-        Some(journal) => run_recorded(host, place, server, &gate, past, journal),
-        None => run_behind(host, place, server, &gate, past, &Unrecorded),
+        Some(journal) => run_recorded(host, options, server, &gate, past, journal),
+        None => run_behind(host, options, server, &gate, past, &Unrecorded),
     }
 }
 
@@ -231,7 +242,7 @@ fn run_recorded<
     R: Threads + Wait + time::Clock + Sync,
 >(
     host: &HostRuntime,
-    place: &ListenAddress,
+    options: &ServeOptions,
     server: &Server<'_, F, C, A, R>,
     gate: &GateLock<G>,
     past: Past<G>,
@@ -239,15 +250,20 @@ fn run_recorded<
 ) -> Ending
     requires { IsCrew server.now.workers }
 {
-    let OpenJournal { name, folder, sync } = journal;
+    let OpenJournal {
+        name,
+        folder,
+        sync,
+        room,
+    } = journal;
     let chronicle = Recording {
         alloc: server.alloc,
         rt: server.rt,
         gate,
     };
-    match GroupJournal::begin(server.alloc, &chronicle, folder, sync) {
+    match GroupJournal::begin(server.alloc, &chronicle, folder, sync, room) {
         Ok(journal) => {
-            let ending = run_behind(host, place, server, gate, past, &journal);
+            let ending = run_behind(host, options, server, gate, past, &journal);
             match journal.fault(server.rt) {
                 Some(fault) => tell_failed_journal(host, name, fault),
                 None => ending,
@@ -267,7 +283,7 @@ fn run_behind<
     J: Recorder + Sync,
 >(
     host: &HostRuntime,
-    place: &ListenAddress,
+    options: &ServeOptions,
     server: &Server<'_, F, C, A, R>,
     gate: &GateLock<G>,
     past: Past<G>,
@@ -275,7 +291,7 @@ fn run_behind<
 ) -> Ending
     requires { IsCrew server.now.workers }
 {
-    match tell_places(host, place, server.listener, server.overseers) {
+    match tell_places(host, options, server.listener, server.overseers) {
         Ending::Done => {
             let Past { receipts, sites } = past;
             let end = server.run_resumed(gate, receipts, sites.as_slice(), journal);

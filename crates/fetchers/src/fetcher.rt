@@ -88,6 +88,15 @@ pub trait Fetcher {
     /// Makes all fetches fail from now on, running ones as soon as possible. Instant fetches need no stop.
     fn stop(&self) {}
 
+    /// Takes room for a robots text of so many octets beside those that are kept, if there is any. A site whose
+    /// text has none is closed.
+    fn takes_text(&self, _octets: u64) -> bool {
+        true
+    }
+
+    /// Tells it how many octets of robots texts are kept now. It counts on from there.
+    fn counts_texts(&self, _octets: u64) {}
+
     /// Fetches a page, with at most `limit` octets of its body.
     fn load_page(
         &self,

@@ -3,6 +3,7 @@
 
 mod fetcher;
 mod tcp_fetcher;
+mod text_room;
 
 pub use fetcher::{Fetcher, PageLeave, RobotsLeave};
 pub use tcp_fetcher::TcpFetcher;

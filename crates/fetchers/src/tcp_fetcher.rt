@@ -9,7 +9,8 @@ ghost use Rattle.fetchers.specs.Limits.{robots_limit};
 ghost use Rattle.fetchers.specs.Network.{agent_with, schemes_by};
 
 use crate::fetcher::{Fetcher, PageLeave, RobotsLeave};
-use http_client::{Deadline, Failure, Reach, TcpClient, TimeLimits};
+use crate::text_room::TextRoom;
+use http_client::{AddressBlock, Deadline, Failure, Reach, TcpClient, TimeLimits};
 use http_wire::{HttpReply, WireFault};
 use path_normal::{PageUrl, Schemes};
 use robots_text::MAX_TEXT;
@@ -31,6 +32,7 @@ pub struct TcpFetcher<R: Net<Stream = TcpStream> + time::Clock> {
     agent: Vec<u8>,
     contact: Option<Vec<u8>>,
     schemes: Schemes,
+    texts: TextRoom,
 }
 
 impl<R: Net<Stream = TcpStream> + time::Clock> Model for TcpFetcher<R> {
@@ -102,6 +104,7 @@ impl<R: Net<Stream = TcpStream> + time::Clock> TcpFetcher<R> {
             contact: None,
             client: TcpClient::with_tls(rt, limits, reach, tls_by),
             schemes: schemes_by(tls_by),
+            texts: TextRoom::new(),
         })
     }
 
@@ -124,13 +127,60 @@ impl<R: Net<Stream = TcpStream> + time::Clock> TcpFetcher<R> {
             agent: _,
             contact: _,
             schemes,
+            texts,
         } = self;
         Ok(TcpFetcher {
             client,
             agent: whole,
             contact: Some(contact),
             schemes,
+            texts,
         })
+    }
+
+    /// This fetcher, which connects to no address in these blocks, whatever its reach. They do not apply to
+    /// the TLS program.
+    pub fn avoiding(self, not_to: Vec<AddressBlock>) -> TcpFetcher<R>
+    where
+        R: Drop,
+        ensures { result ≡ self }
+    {
+        let TcpFetcher {
+            client,
+            agent,
+            contact,
+            schemes,
+            texts,
+        } = self;
+        TcpFetcher {
+            client: client.avoiding(not_to),
+            agent,
+            contact,
+            schemes,
+            texts,
+        }
+    }
+
+    /// This fetcher, which keeps at most so many octets of robots texts together.
+    pub fn keeping(self, most: u64) -> TcpFetcher<R>
+    where
+        R: Drop,
+        ensures { result ≡ self }
+    {
+        let TcpFetcher {
+            client,
+            agent,
+            contact,
+            schemes,
+            texts: _,
+        } = self;
+        TcpFetcher {
+            client,
+            agent,
+            contact,
+            schemes,
+            texts: TextRoom::of(most),
+        }
     }
 
     fn allocator(&self) -> Global {
@@ -181,6 +231,14 @@ impl<R: Net<Stream = TcpStream> + time::Clock> Fetcher for TcpFetcher<R> {
 
     fn stop(&self) {
         self.client.stop();
+    }
+
+    fn takes_text(&self, octets: u64) -> bool {
+        self.texts.take(octets)
+    }
+
+    fn counts_texts(&self, octets: u64) {
+        self.texts.count_from(octets);
     }
 
     fn load_page(

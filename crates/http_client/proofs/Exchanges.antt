@@ -11,7 +11,7 @@ use Rattle.http_wire.specs.declared.response.HttpReply.{HttpReply}
 use Rattle.http_wire.specs.Response.{Tells}
 use Rattle.http_client.specs.Exchange.{Exchanges}
 
-device_tells : (limit : ℕ) (result : Result HttpReply WireFault) → result ≡ Err Device → Tells None limit result
+pub device_tells : (limit : ℕ) (result : Result HttpReply WireFault) → result ≡ Err Device → Tells None limit result
 device_tells limit result fails =
     let P : Result HttpReply WireFault → Type 0 = λ r. Tells None limit r
     in subst P (sym fails) (record { input = []; whole = tt; answers = tt })

@@ -1,38 +1,115 @@
--- Addresses outside the public internet: of this machine, a private network, one link, or no single host.
--- RFC 6890, section 2.2; RFC 4193; RFC 4291, sections 2.5 and 2.7. Used by `Reach`.
-use Rattle.std.specs.Prelude.{◌≡◌, ℕ, Bool, false, List, ◌&&◌, ◌||◌, ◌==◌, nat_le, slice_index}
-use Rattle.std.specs.Net.Addr.{HoldsIpv4, ipv4_octets, ipv6_segments, low_octets}
+-- The addresses that a client of the public internet doesn't connect to, by blocks, and those that it may.
+-- RFC 6890, section 2.2, and IANA's registries of special-purpose addresses: each block has the name that it has there.
+use Rattle.std.specs.Prelude.{ℕ, ◌+◌, ◌-◌, ◌*◌, ◌^◌, Bool, true, IsTrue, List, [], ◌∷◌, ◌&&◌, not}
+use Rattle.std.specs.List.{list_any}
 use Rattle.std.specs.declared.net.ip_addr.IpAddr.{IpAddr}
-use Rattle.std.specs.declared.net.ip_addr.IpAddr.TheVariants.{V4, V6}
-use Rattle.std.specs.declared.net.ipv6_addr.Ipv6Addr.{Ipv6Addr}
+use Rattle.http_client.specs.Blocks.{holds, mapped}
+use Rattle.http_client.specs.declared.address_block.AddressBlock.{AddressBlock}
 use Rattle.http_client.specs.declared.reach.Reach.{Reach}
 use Rattle.http_client.specs.declared.reach.Reach.TheVariants.{Anywhere, PublicOnly}
 
--- an address with this first octet, and its second in this range
-abbrev pub is_in : ℕ → ℕ → ℕ → List ℕ → Bool
-is_in first least most octets =
-    (slice_index octets 0 == first) && (nat_le least (slice_index octets 1) && nat_le (slice_index octets 1) most)
+-- an address of IPv4 and how many of its bits count
+abbrev v4 : ℕ → ℕ → ℕ → ℕ → ℕ → AddressBlock
+v4 a b c d bits = record { first = mapped (a * 2 ^ 24 + b * 2 ^ 16 + c * 2 ^ 8 + d); spare = 32 - bits }
 
--- 0.0.0.0/8, 10.0.0.0/8, 100.64.0.0/10, 127.0.0.0/8, 169.254.0.0/16, 172.16.0.0/12, 192.168.0.0/16, and all from
--- 224.0.0.0 on
-abbrev pub is_inner_v4 : List ℕ → Bool
-is_inner_v4 octets =
-    is_in 0 0 255 octets || (is_in 10 0 255 octets || (is_in 100 64 127 octets || (is_in 127 0 255 octets
-    || (is_in 169 254 254 octets
-    || (is_in 172 16 31 octets || (is_in 192 168 168 octets || nat_le 224 (slice_index octets 0)))))))
+-- an address of IPv6, by its first four segments and its last one, and how many of its bits count
+abbrev v6 : ℕ → ℕ → ℕ → ℕ → ℕ → ℕ → AddressBlock
+v6 a b c d last bits = record { first = a * 2 ^ 112 + b * 2 ^ 96 + c * 2 ^ 80 + d * 2 ^ 64 + last; spare = 128 - bits }
 
--- an address that has one of IPv4 in it (::1 and :: do) is judged by that; of others fc00::/7 and all above are
--- inner: fe80::/10, ff00::/8
-pub record IsInnerV6 (address : Ipv6Addr) (inner : Bool) : Type 0 where
-  pub holds : HoldsIpv4 address → inner ≡ is_inner_v4 (low_octets address)
-  pub own : ¬ (HoldsIpv4 address) → inner ≡ nat_le 0xfc00 (slice_index (ipv6_segments address) 0)
+-- blocks whose addresses are not globally reachable, or not those of one host
+abbrev pub inner_blocks : List AddressBlock
+inner_blocks =
+    -- "This network"
+    v4 0 0 0 0 8
+    -- Private-Use
+    ∷ v4 10 0 0 0 8
+    -- Shared Address Space
+    ∷ v4 100 64 0 0 10
+    -- Loopback
+    ∷ v4 127 0 0 0 8
+    -- Link Local
+    ∷ v4 169 254 0 0 16
+    -- Private-Use
+    ∷ v4 172 16 0 0 12
+    -- IETF Protocol Assignments
+    ∷ v4 192 0 0 0 24
+    -- Documentation (TEST-NET-1)
+    ∷ v4 192 0 2 0 24
+    -- Deprecated (6to4 Relay Anycast)
+    ∷ v4 192 88 99 0 24
+    -- Private-Use
+    ∷ v4 192 168 0 0 16
+    -- Benchmarking
+    ∷ v4 198 18 0 0 15
+    -- Documentation (TEST-NET-2)
+    ∷ v4 198 51 100 0 24
+    -- Documentation (TEST-NET-3)
+    ∷ v4 203 0 113 0 24
+    -- Multicast (RFC 5771), then Reserved and Limited Broadcast
+    ∷ v4 224 0 0 0 4
+    ∷ v4 240 0 0 0 4
+    -- IPv4-IPv6 Translat., for local use (RFC 8215)
+    ∷ v6 0x64 0xff9b 1 0 0 48
+    -- Discard-Only Address Block
+    ∷ v6 0x100 0 0 0 0 64
+    -- Dummy IPv6 Prefix
+    ∷ v6 0x100 0 0 1 0 64
+    -- IETF Protocol Assignments, with TEREDO (2001::/32), Benchmarking and ORCHID
+    ∷ v6 0x2001 0 0 0 0 23
+    -- Documentation
+    ∷ v6 0x2001 0xdb8 0 0 0 32
+    ∷ v6 0x3fff 0 0 0 0 20
+    -- Segment Routing (SRv6) SIDs
+    ∷ v6 0x5f00 0 0 0 0 16
+    -- Unique-Local
+    ∷ v6 0xfc00 0 0 0 0 7
+    -- Reserved by IETF (RFC 4291, section 4)
+    ∷ v6 0xfe00 0 0 0 0 9
+    -- Link-Local Unicast
+    ∷ v6 0xfe80 0 0 0 0 10
+    -- Site-Local (RFC 3879)
+    ∷ v6 0xfec0 0 0 0 0 10
+    -- Multicast (RFC 4291, section 2.7)
+    ∷ v6 0xff00 0 0 0 0 8
+    ∷ []
 
--- the address is inner, or not
-abbrev pub IsInner : IpAddr → Bool → Type 0
-IsInner (V4 address) inner = inner ≡ is_inner_v4 (ipv4_octets address)
-IsInner (V6 address) inner = IsInnerV6 address inner
+-- blocks within these that the registries call globally reachable
+abbrev pub global_blocks : List AddressBlock
+global_blocks =
+    -- Port Control Protocol Anycast; Traversal Using Relays around NAT Anycast
+    v4 192 0 0 9 32
+    ∷ v4 192 0 0 10 32
+    ∷ v6 0x2001 1 0 0 1 128
+    ∷ v6 0x2001 1 0 0 2 128
+    -- DNS-SD Service Registration Protocol Anycast
+    ∷ v6 0x2001 1 0 0 3 128
+    -- AMT
+    ∷ v6 0x2001 3 0 0 0 32
+    -- AS112-v6
+    ∷ v6 0x2001 4 0x112 0 0 48
+    -- ORCHIDv2
+    ∷ v6 0x2001 0x20 0 0 0 28
+    -- Drone Remote ID Protocol Entity Tags (DETs) Prefix
+    ∷ v6 0x2001 0x30 0 0 0 28
+    ∷ []
 
--- a client of the public internet connects to no inner address
-abbrev pub MayReach : Reach → IpAddr → Type 0
-MayReach Anywhere address = Unit {0}
-MayReach PublicOnly address = IsInner address false
+-- one of the blocks holds the address
+abbrev pub is_among : List AddressBlock → IpAddr → Bool
+is_among blocks address = list_any (holds address) blocks
+
+-- the address is not of the public internet
+abbrev pub is_inner : IpAddr → Bool
+is_inner address = is_among inner_blocks address && not (is_among global_blocks address)
+
+-- a client with this reach connects to the address
+abbrev pub allows : Reach → IpAddr → Bool
+allows Anywhere address = true
+allows PublicOnly address = not (is_inner address)
+
+-- and its operator has not ruled the address out
+abbrev pub may_reach : Reach → List AddressBlock → IpAddr → Bool
+may_reach reach not_to address = allows reach address && not (is_among not_to address)
+
+-- the same as a fact
+abbrev pub MayReach : Reach → List AddressBlock → IpAddr → Type 0
+MayReach reach not_to address = IsTrue (may_reach reach not_to address)

@@ -2,17 +2,22 @@
 //! RFC 9110, section 4.2.1; RFC 9112, sections 2 and 3.
 #![tactic(auto)]
 
+mod address_block;
 mod deadline;
 mod failure;
 mod heard;
 mod host_port;
 mod http_exchange;
+mod own_address;
 mod reach;
+mod special_blocks;
 mod tcp_client;
 mod time_limits;
 mod timed_stream;
+mod tls_exchange;
 mod tls_header;
 
+pub use address_block::AddressBlock;
 pub use deadline::Deadline;
 pub use failure::Failure;
 pub use host_port::{HostPort, host_port_of};

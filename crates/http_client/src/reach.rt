@@ -1,11 +1,13 @@
-//! Which addresses a client connects to: all, or only those of the public internet.
+//! Which addresses a client connects to: all, or only those of the public internet, and none that its
+//! operator rules out.
 //! RFC 6890, section 2.2.
-ghost use Rattle.std.specs.Prelude.{◌≡◌, IfSome};
-ghost use Rattle.std.specs.Net.Addr.{ipv4_octets};
+ghost use Rattle.std.specs.Prelude.{◌≡◌, ◌↔◌, IfSome, IsSome};
 ghost use Rattle.std.specs.Net.Socket.{socket_ip};
-ghost use Rattle.http_client.specs.Reach.{IsInner, IsInnerV6, MayReach, is_in, is_inner_v4};
+ghost use Rattle.http_client.specs.Reach.{MayReach, allows, is_among, is_inner, may_reach};
 
-use std::net::{IpAddr, Ipv4Addr, Ipv6Addr, SocketAddr};
+use crate::address_block::AddressBlock;
+use crate::special_blocks::{global_blocks, inner_blocks};
+use std::net::{IpAddr, SocketAddr};
 
 /// Where a client may connect.
 #[derive(Clone, Copy, Debug, PartialEq, Eq)]
@@ -16,62 +18,65 @@ pub enum Reach {
     PublicOnly,
 }
 
-/// An address within a client's reach.
-#[derive(Drop)]
-pub(crate) struct Way {
-    pub(crate) reach: Reach,
-    pub(crate) address: SocketAddr,
-    ghost may: { ∥ MayReach reach (socket_ip address) ∥₁ },
+impl Reach {
+    /// Whether it includes an address. An address of IPv6 with one of IPv4 in it is judged by that one.
+    pub fn allows(&self, address: &IpAddr) -> bool
+        ensures { result ≡ allows self.now address.now }
+    {
+        match self {
+            Reach::Anywhere => true,
+            Reach::PublicOnly => !is_inner(address),
+        }
+    }
 }
 
-impl Way {
+/// An address within a client's reach, and in none of the blocks that its operator rules out.
+#[derive(Drop)]
+pub(crate) struct Way<'a> {
+    pub(crate) reach: Reach,
+    pub(crate) not_to: &'a [AddressBlock],
+    pub(crate) address: SocketAddr,
+    ghost may: { ∥ MayReach reach not_to.now (socket_ip address) ∥₁ },
+}
+
+impl<'a> Way<'a> {
     /// The way to an address, if within reach.
-    pub(crate) fn to(reach: Reach, address: SocketAddr) -> Option<Way>
-        ensures { IfSome result (λ way. (way.reach ≡ reach) × (way.address ≡ address)) }
+    pub(crate) fn to(
+        reach: Reach,
+        not_to: &'a [AddressBlock],
+        address: SocketAddr,
+    ) -> Option<Way<'a>>
+        ensures found { IsSome result ↔ MayReach reach not_to.now (socket_ip address) }
+        ensures same { IfSome result (λ way. (way.reach ≡ reach) × (way.address ≡ address)
+            × (way.not_to.now ≡ not_to.now)) }
     {
-        if reach == Reach::PublicOnly && is_inner(&address.ip()) {
-            return None;
+        if may_reach(reach, not_to, &address.ip()) {
+            Some(Way {
+                reach,
+                not_to,
+                address,
+            })
+        } else {
+            None
         }
-        Some(Way { reach, address })
     }
+}
+
+fn may_reach(reach: Reach, not_to: &[AddressBlock], address: &IpAddr) -> bool
+    ensures { result ≡ may_reach reach not_to.now address.now }
+{
+    reach.allows(address) && !is_among(not_to, address)
 }
 
 /// Whether an address is not of the public internet.
 fn is_inner(address: &IpAddr) -> bool
-    ensures { IsInner address.now result }
+    ensures { result ≡ is_inner address.now }
 {
-    match address {
-        IpAddr::V4(address) => is_inner_v4(address),
-        IpAddr::V6(address) => is_inner_v6(address),
-    }
+    is_among(inner_blocks(), address) && !is_among(global_blocks(), address)
 }
 
-fn is_inner_v6(address: &Ipv6Addr) -> bool
-    ensures { IsInnerV6 address.now result }
+fn is_among(blocks: &[AddressBlock], address: &IpAddr) -> bool
+    ensures { result ≡ is_among blocks.now address.now }
 {
-    match address.to_ipv4() {
-        Some(held) => is_inner_v4(&held),
-        None => address.segments()[0] >= 0xfc00,
-    }
-}
-
-fn is_inner_v4(address: &Ipv4Addr) -> bool
-    ensures { result ≡ is_inner_v4 (ipv4_octets address.now) }
-{
-    let octets = address.octets();
-    is_in(octets, 0, 0, 255)
-        || is_in(octets, 10, 0, 255)
-        || is_in(octets, 100, 64, 127)
-        || is_in(octets, 127, 0, 255)
-        || is_in(octets, 169, 254, 254)
-        || is_in(octets, 172, 16, 31)
-        || is_in(octets, 192, 168, 168)
-        || octets[0] >= 224
-}
-
-// Whether an address has this first octet, and a second one in this range.
-fn is_in(octets: [u8; 4], first: u8, least: u8, most: u8) -> bool
-    ensures { result ≡ is_in first least most octets }
-{
-    octets[0] == first && least <= octets[1] && octets[1] <= most
+    blocks.iter().any(|block| block.holds(address))
 }

@@ -4,14 +4,17 @@ ghost use Rattle.http_wire.specs.Response.{Tells};
 ghost use Rattle.http_wire.specs.declared.fault.WireFault.TheVariants.{Device};
 ghost use Rattle.http_client.specs.Agent.{IsAgent};
 
+use crate::address_block::AddressBlock;
 use crate::deadline::Deadline;
 use crate::failure::Failure;
-use crate::heard::Heard;
+use crate::heard::{Heard, Nothing};
 use crate::host_port::host_port_of;
-use crate::http_exchange::{exchange, exchange_behind};
+use crate::http_exchange::exchange;
+use crate::own_address::may_be_own;
 use crate::reach::{Reach, Way};
 use crate::time_limits::TimeLimits;
 use crate::timed_stream::TimedStream;
+use crate::tls_exchange::exchange_through;
 use crate::tls_header::{TlsHeaderFault, tls_header_of};
 use counted_io::Counted;
 use http_wire::{HttpReply, WireFault};
@@ -29,6 +32,7 @@ pub struct TcpClient<R: Net<Stream = TcpStream> + time::Clock> {
     rt: R,
     limits: TimeLimits,
     reach: Reach,
+    not_to: Option<Vec<AddressBlock>>,
     tls_by: Option<SocketAddr>,
     stopped: AtomicBool,
 }
@@ -80,8 +84,34 @@ impl<R: Net<Stream = TcpStream> + time::Clock> TcpClient<R> {
             rt,
             limits,
             reach,
+            not_to: None,
             tls_by,
             stopped: AtomicBool::new(false),
+        }
+    }
+
+    /// This client, which connects to no address in these blocks, whatever its reach. They do not apply to
+    /// the TLS program.
+    pub fn avoiding(self, not_to: Vec<AddressBlock>) -> TcpClient<R>
+    where
+        R: Drop,
+        ensures { result ≡ self }
+    {
+        let TcpClient {
+            rt,
+            limits,
+            reach,
+            not_to: _,
+            tls_by,
+            stopped,
+        } = self;
+        TcpClient {
+            rt,
+            limits,
+            reach,
+            not_to: Some(not_to),
+            tls_by,
+            stopped,
         }
     }
 
@@ -197,7 +227,7 @@ impl<R: Net<Stream = TcpStream> + time::Clock> TcpClient<R> {
         };
         let mut last = fault_for(Failure::NoName, failure);
         for address in addresses {
-            let Some(way) = Way::to(self.reach, address) else {
+            let Some(way) = self.way_to(address) else {
                 last = fault_for(Failure::Unreachable, failure);
                 continue;
             };
@@ -215,7 +245,7 @@ impl<R: Net<Stream = TcpStream> + time::Clock> TcpClient<R> {
         &self,
         alloc: Global,
         program: &SocketAddr,
-        way: &Way,
+        way: &Way<'_>,
         asked: &Asked<'_>,
         failure: &mut Option<Failure>,
     ) -> Result<HttpReply, WireFault>
@@ -232,18 +262,16 @@ impl<R: Net<Stream = TcpStream> + time::Clock> TcpClient<R> {
             Ok(stream) => stream,
             Err(why) => return Err(fault_for(why, failure)),
         };
-        let mut reader = Counted::new(Heard::new(self.timed(&stream, asked.deadline)));
         let mut writer = Counted::new(self.timed(&stream, asked.deadline));
-        let given = exchange_behind(
+        let (given, heard): (_, Heard<_, Nothing>) = exchange_through(
             alloc,
-            &mut reader,
+            self.timed(&stream, asked.deadline),
             &mut writer,
             header.as_slice(),
             asked.url,
             asked.agent,
             asked.limit,
         );
-        let heard = reader.into_inner();
         let told = writer.into_inner().failure.or(heard.stream.failure);
         *failure = if heard.any {
             told
@@ -262,7 +290,7 @@ impl<R: Net<Stream = TcpStream> + time::Clock> TcpClient<R> {
         };
         let mut last = Failure::NoName;
         for address in addresses {
-            let Some(way) = Way::to(self.reach, address) else {
+            let Some(way) = self.way_to(address) else {
                 last = Failure::Unreachable;
                 continue;
             };
@@ -274,7 +302,23 @@ impl<R: Net<Stream = TcpStream> + time::Clock> TcpClient<R> {
         Err(last)
     }
 
-    fn connect_to(&self, way: &Way, deadline: &Deadline) -> Result<TcpStream, Failure> {
+    // The way to an address, if within reach. One of this machine is not of the public internet.
+    fn way_to(&self, address: SocketAddr) -> Option<Way<'_>> {
+        let way = Way::to(self.reach, self.not_to(), address)?;
+        if self.reach == Reach::PublicOnly && may_be_own(&self.rt, address) {
+            return None;
+        }
+        Some(way)
+    }
+
+    fn not_to(&self) -> &[AddressBlock] {
+        match &self.not_to {
+            Some(blocks) => blocks.as_slice(),
+            None => &[],
+        }
+    }
+
+    fn connect_to(&self, way: &Way<'_>, deadline: &Deadline) -> Result<TcpStream, Failure> {
         self.connect_at(&way.address, deadline)
     }
 

@@ -8,10 +8,14 @@ use std::io;
 pub enum JournalFault {
     /// A write or sync failed, or a file could not be created, for this reason if known.
     Device(Option<io::Error>),
+    /// The disk, or what the owner may have of it, has no room for these octets of the next file.
+    NoRoom(u64),
     /// No memory for the entries' text.
     NoMemory,
     /// The entries don't continue where the journal ends: another call sealed them.
     Elsewhere,
+    /// The folder's name leads to it no more: it was removed, or another was put in its place.
+    Gone,
 }
 
 impl From<AllocError> for JournalFault {
@@ -26,10 +30,12 @@ impl From<AllocError> for JournalFault {
 }
 
 /// Why a folder can't be used for a journal.
-#[derive(Clone, Copy, Debug)]
+#[derive(Debug, Drop)]
 pub enum FolderFault {
     /// It has files with other names than a journal's.
     OtherFiles,
+    /// What has this path in it, which is a name of a journal's, is no regular file: a link, a pipe, a folder.
+    NotRegular(String),
     /// Another process has it.
     InUse,
     /// It can't be made, read or locked, for this reason.

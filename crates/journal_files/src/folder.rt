@@ -3,13 +3,25 @@
 use crate::fault::{FolderFault, JournalFault};
 use crate::last_file::LastFile;
 use crate::names::{LOCK_NAME, NEW_NAME, file_name, is_file_name, path_in};
+use crate::regular::{leads_to, open_regular};
 use crate::shelf::Shelf;
 use crate::writing::keep;
 use journal_tape::FileTape;
-use std::alloc::Global;
-use std::fs::{File, Files, TryLockError};
+use std::alloc::{AllocError, Global};
+use std::fs::{DirBuilder, File, Files, TryLockError};
 use std::io::ErrorKind;
+use std::os::unix::fs::DirBuilderExt;
 use std::{fs, io};
+
+// A folder that is made is its owner's alone.
+const FOLDER_MODE: u32 = 0o700;
+
+// The greatest names of a journal's files in a folder, if any.
+#[derive(Drop)]
+struct LastNames {
+    last: Option<String>,
+    before: Option<String>,
+}
 
 /// A folder, and this process's lock on it, released on drop.
 #[derive(Drop)]
@@ -17,40 +29,48 @@ pub struct Folder<R> {
     rt: R,
     alloc: Global,
     path: String,
+    // The folder itself, whatever its name leads to later.
+    home: File,
     lock: File,
-    // The path of its last file at the start.
-    last: Option<String>,
+    // The names of its last files at the start.
+    names: LastNames,
 }
 
 impl<R: Files<File = File> + AllocGlobal + Clone + Drop> Folder<R> {
-    /// Makes the folder if needed, and locks it. It must have only a journal's files.
+    /// Makes the folder if needed, and locks it. It must have only a journal's files, and each of them is a
+    /// regular file.
     pub fn open(rt: R, path: &str) -> Result<Folder<R>, FolderFault> {
         let alloc = rt.alloc();
-        make(&rt, path)?;
-        let name = path_in(alloc, path, LOCK_NAME)?;
-        let lock = lock(&rt, name.as_str())?;
-        let last = match last_name(&rt, path)? {
-            Some(name) => Some(path_in(alloc, path, name.as_str())?),
-            None => None,
-        };
+        let home = open_home(&rt, path)?;
+        let lock_path = path_in(alloc, path, LOCK_NAME)?;
+        let lock = lock(&rt, alloc, lock_path.as_str())?;
+        let names = last_names(&rt, path)?;
         let path = String::from_str(alloc, path)?;
         Ok(Folder {
             rt,
             alloc,
             path,
+            home,
             lock,
-            last,
+            names,
         })
     }
 
-    /// The last file when it was opened, from whose text a journal continues, if any. An incomplete file
-    /// doesn't count; the next one overwrites it.
-    pub fn last_file(&self) -> io::Result<Option<LastFile>> {
-        match &self.last {
-            Some(path) => {
-                let path = String::from_str(self.alloc, path.as_str())?;
-                Ok(Some(LastFile::open(&self.rt, path)?))
+    /// The last file when it was opened, from whose text a journal continues, if any, and the one before it.
+    /// An incomplete file doesn't count; the next one replaces it.
+    pub fn last_file(&self) -> Result<Option<LastFile>, FolderFault> {
+        match self.path_of(&self.names.last)? {
+            Some(last) => {
+                let before = self.path_of(&self.names.before)?;
+                Ok(Some(LastFile::open(&self.rt, self.alloc, last, before)?))
             }
+            None => Ok(None),
+        }
+    }
+
+    fn path_of(&self, name: &Option<String>) -> Result<Option<String>, AllocError> {
+        match name {
+            Some(name) => Ok(Some(path_in(self.alloc, self.path.as_str(), name.as_str())?)),
             None => Ok(None),
         }
     }
@@ -59,10 +79,15 @@ impl<R: Files<File = File> + AllocGlobal + Clone + Drop> Folder<R> {
     fn write_file(&self, name: &str, head: &[u8]) -> io::Result<FileTape<File>> {
         let new = path_in(self.alloc, self.path.as_str(), NEW_NAME)?;
         let name = path_in(self.alloc, self.path.as_str(), name)?;
-        let tape = keep(FileTape::new(File::create(&self.rt, new.as_str())?), head)?;
+        remove_if_there(&self.rt, new.as_str())?;
+        let file = File::options()
+            .write(true)
+            .create_new(true)
+            .open(&self.rt, new.as_str())?;
+        let tape = keep(FileTape::new(file), head)?;
         fs::rename(&self.rt, new.as_str(), name.as_str())?;
         // A synced folder keeps its names in a crash.
-        File::open(&self.rt, self.path.as_str())?.sync_all()?;
+        self.home.sync_all()?;
         Ok(tape)
     }
 }
@@ -71,25 +96,74 @@ impl<R: Files<File = File> + AllocGlobal + Clone + Drop> Shelf for Folder<R> {
     type Tape = FileTape<File>;
 
     fn put_up(&mut self, entries: u64, head: &[u8]) -> Result<FileTape<File>, JournalFault> {
+        self.look()?;
         let name = file_name(self.alloc, entries)?;
         match self.write_file(name.as_str(), head) {
             Ok(tape) => Ok(tape),
+            Err(cause) => Err(fault_of(cause, head.len() as u64)),
+        }
+    }
+
+    fn octets(&self) -> Result<u64, JournalFault> {
+        match octets_in(&self.rt, self.path.as_str()) {
+            Ok(octets) => Ok(octets),
+            Err(cause) => Err(JournalFault::Device(Some(cause))),
+        }
+    }
+
+    fn look(&self) -> Result<(), JournalFault> {
+        match leads_to(&self.rt, self.path.as_str(), &self.home) {
+            Ok(true) => Ok(()),
+            Ok(false) => Err(JournalFault::Gone),
+            Err(cause) if cause.kind() == ErrorKind::NotFound => Err(JournalFault::Gone),
             Err(cause) => Err(JournalFault::Device(Some(cause))),
         }
     }
 }
 
-// Makes a folder, if there is none.
-fn make<R: Files>(rt: &R, path: &str) -> io::Result<()> {
-    match fs::create_dir(rt, path) {
-        Err(cause) if cause.kind() != ErrorKind::AlreadyExists => Err(cause),
+// The fault of a file of so many octets that can't be made.
+fn fault_of(cause: io::Error, octets: u64) -> JournalFault {
+    match cause.kind() {
+        ErrorKind::StorageFull | ErrorKind::QuotaExceeded => JournalFault::NoRoom(octets),
+        _ => JournalFault::Device(Some(cause)),
+    }
+}
+
+// The octets of all files in a folder, without those that are removed meanwhile.
+fn octets_in<R: Files + AllocGlobal + Clone + Drop>(rt: &R, path: &str) -> io::Result<u64> {
+    let mut octets: u64 = 0;
+    for entry in fs::read_dir(rt, path)? {
+        match entry?.metadata() {
+            Ok(about) => octets = octets.saturating_add(about.len()),
+            Err(cause) if cause.kind() == ErrorKind::NotFound => {}
+            Err(cause) => return Err(cause),
+        }
+    }
+    Ok(octets)
+}
+
+// Makes a folder, if there is none, and opens it.
+fn open_home<R: Files<File = File>>(rt: &R, path: &str) -> io::Result<File> {
+    match DirBuilder::new().mode(FOLDER_MODE).create(rt, path) {
+        Err(cause) if cause.kind() != ErrorKind::AlreadyExists => return Err(cause),
+        _ => {}
+    }
+    if !fs::metadata(rt, path)?.is_dir() {
+        return Err(io::Error::from(ErrorKind::NotADirectory));
+    }
+    File::open(rt, path)
+}
+
+fn remove_if_there<R: Files>(rt: &R, path: &str) -> io::Result<()> {
+    match fs::remove_file(rt, path) {
+        Err(cause) if cause.kind() != ErrorKind::NotFound => Err(cause),
         _ => Ok(()),
     }
 }
 
 // Locks a folder, without waiting.
-fn lock<R: Files<File = File>>(rt: &R, name: &str) -> Result<File, FolderFault> {
-    let file = File::create(rt, name)?;
+fn lock<R: Files<File = File>>(rt: &R, alloc: Global, path: &str) -> Result<File, FolderFault> {
+    let file = open_lock(rt, alloc, path)?;
     match file.try_lock() {
         Ok(()) => Ok(file),
         Err(TryLockError::WouldBlock) => Err(FolderFault::InUse),
@@ -97,28 +171,65 @@ fn lock<R: Files<File = File>>(rt: &R, name: &str) -> Result<File, FolderFault> 
     }
 }
 
-// The greatest name of a journal's files in a folder with no others.
-fn last_name<R: Files + AllocGlobal + Clone + Drop>(
+// Makes the file of the lock, or opens the one that is there.
+fn open_lock<R: Files<File = File>>(
+    rt: &R,
+    alloc: Global,
+    path: &str,
+) -> Result<File, FolderFault> {
+    let mut how = File::options();
+    how.write(true);
+    let mut new = File::options();
+    new.write(true).create_new(true);
+    match new.open(rt, path) {
+        Err(cause) if cause.kind() == ErrorKind::AlreadyExists => {
+            open_regular(rt, alloc, &how, path)
+        }
+        made => Ok(made?),
+    }
+}
+
+// The greatest names of a journal's files in a folder with no others.
+fn last_names<R: Files + AllocGlobal + Clone + Drop>(
     rt: &R,
     path: &str,
-) -> Result<Option<String>, FolderFault> {
-    let mut last: Option<String> = None;
+) -> Result<LastNames, FolderFault> {
+    let alloc = rt.alloc();
+    let mut names = LastNames {
+        last: None,
+        before: None,
+    };
     for entry in fs::read_dir(rt, path)? {
         let entry = entry?;
         let name = entry.file_name();
-        if name == LOCK_NAME || name == NEW_NAME {
-            continue;
-        }
-        if !is_file_name(name) {
+        let is_text = is_file_name(name);
+        if !is_text && name != LOCK_NAME && name != NEW_NAME {
             return Err(FolderFault::OtherFiles);
         }
-        let is_later = match &last {
-            Some(last) => last.as_str() < name,
-            None => true,
-        };
-        if is_later {
-            last = Some(String::from_str(rt.alloc(), name)?);
+        if !entry.file_type()?.is_file() {
+            return Err(FolderFault::NotRegular(path_in(alloc, path, name)?));
+        }
+        if is_text {
+            names.add(String::from_str(alloc, name)?);
         }
     }
-    Ok(last)
+    Ok(names)
+}
+
+impl LastNames {
+    // Keeps a name if it is one of the two greatest.
+    fn add(&mut self, name: String) {
+        if is_later(&name, &self.last) {
+            self.before = self.last.replace(name);
+        } else if is_later(&name, &self.before) {
+            self.before = Some(name);
+        }
+    }
+}
+
+fn is_later(name: &String, other: &Option<String>) -> bool {
+    match other {
+        Some(other) => other.as_str() < name.as_str(),
+        None => true,
+    }
 }

@@ -10,6 +10,7 @@ use crate::writer::Writer;
 use counted_io::DeviceFault;
 use std::alloc::Global;
 use std::marker::Model;
+use std::sync::atomic::{AtomicBool, Ordering};
 use std::sync::{Condvar, Mutex, Wait};
 
 // What threads share: the journal's writer, unless a thread has it; how many entries may be sent; and its
@@ -46,6 +47,8 @@ pub struct GroupJournal<S: Shelf> {
     // Notified when a writer is put back.
     moved: Condvar,
     policy: SyncPolicy,
+    // Whether the files have as many octets as they may.
+    is_full: AtomicBool,
 }
 
 impl<S: Shelf> Model for GroupJournal<S> {
@@ -67,17 +70,21 @@ pub(crate) enum WriterAccess<S: Shelf> {
 }
 
 impl<S: Shelf + Drop> GroupJournal<S> {
-    /// A journal that begins with a whole chronicle: it creates the first file.
+    /// A journal that begins with a whole chronicle: it creates the first file. Its files may have so many
+    /// octets, if that is limited: those of the shelf's earlier files count, too. Past the limit `has_room` is
+    /// false, and all that is entered is still written.
     pub fn begin<H: Chronicle>(
         alloc: Global,
         chronicle: &H,
         shelf: S,
         policy: SyncPolicy,
+        limit: Option<u64>,
     ) -> Result<GroupJournal<S>, JournalFault>
         ensures { IfOk result (λ journal. journal ≡ policy) }
     {
-        let writer = Writer::new(alloc, chronicle, shelf)?;
+        let writer = Writer::new(alloc, chronicle, shelf, limit)?;
         Ok(GroupJournal {
+            is_full: AtomicBool::new(!writer.has_room()),
             shared: Mutex::new(SharedWriter {
                 reached: writer.place().spelled,
                 writer: Some(writer),
@@ -86,6 +93,13 @@ impl<S: Shelf + Drop> GroupJournal<S> {
             moved: Condvar::new(),
             policy,
         })
+    }
+
+    /// Whether the files have fewer octets than they may, as was known when they were last written, or tended
+    /// where they were full. It waits for nothing. Others may write meanwhile, so an entry that is made then may
+    /// lead past the limit by what several threads enter at once.
+    pub fn has_room(&self) -> bool {
+        !self.is_full.load(Ordering::SeqCst)
     }
 
     /// Its fault, if it has failed: failures are final.
@@ -107,24 +121,24 @@ impl<S: Shelf + Drop> GroupJournal<S> {
         }
     }
 
-    /// Waits until a crash keeps all that was written. With the policy `Second`, a server calls it each
-    /// second.
-    pub fn sync<R: Wait>(&self, rt: &R) -> Result<(), DeviceFault> {
+    /// Fails if the files' place is no longer there, and looks for room if there was none. With the policy
+    /// `Second`, waits until a crash keeps all that was written. To be called each second.
+    pub fn tend<R: Wait>(&self, rt: &R) -> Result<(), DeviceFault> {
         match self.take_writer(rt, u64::MAX) {
             WriterAccess::Reached => Ok(()),
             WriterAccess::Failed => Err(DeviceFault),
             WriterAccess::Taken(writer) => {
                 let mut writer = writer;
-                let outcome = writer.sync();
+                let outcome = writer.tend(self.policy);
                 self.put_back(rt, writer, outcome)
             }
         }
     }
 
     /// Whether a new file is due: by entries since the last one, or by octets after the file's beginning,
-    /// if more than `FILE_OCTETS` and than the beginning has.
+    /// if more than `FILE_OCTETS` and than the beginning has. Without room none is.
     pub fn is_due<H: Chronicle, R: Wait>(&self, rt: &R, chronicle: &H) -> bool {
-        chronicle.is_due() || self.shared.lock(rt).is_long()
+        self.has_room() && (chronicle.is_due() || self.shared.lock(rt).is_long())
     }
 
     /// Its sync policy.
@@ -159,6 +173,7 @@ impl<S: Shelf + Drop> GroupJournal<S> {
         writer: Writer<S>,
         outcome: Result<(), JournalFault>,
     ) -> Result<(), DeviceFault> {
+        self.is_full.store(!writer.has_room(), Ordering::SeqCst);
         let result = {
             let mut shared = self.shared.lock(rt);
             let shared = &mut *shared;

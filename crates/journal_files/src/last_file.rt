@@ -1,43 +1,138 @@
-//! The last file of a journal that an earlier process wrote.
+//! The last file of a journal that an earlier process wrote, and the one before it, from which it goes on.
 //! What was open at its end is ended in it before a new file begins, so `cat FOLDER/*` stays one history.
 
-use crate::fault::JournalFault;
+use crate::fault::{FolderFault, JournalFault};
+use crate::joined::{Joined, JoinedLine};
+use crate::names::{file_digits, head_of, line_unlike};
+use crate::regular::open_regular;
 use crate::writing::keep;
 use journal_tape::FileTape;
+use std::alloc::Global;
 use std::fs::{File, Files};
 use std::io;
 use std::io::{Seek, SeekFrom};
+use std::os::unix::fs::FileExt;
 
-/// A file with its path, open for reading and writing.
+// More octets than the longest head has.
+const HEAD: usize = 32;
+
+/// A line of a file, numbered from 1.
+#[derive(Clone, Copy, Debug)]
+pub struct FileLine<'a> {
+    /// The file's path.
+    pub path: &'a str,
+    pub line: u64,
+}
+
+// A file that was opened, and its path, which ends in its name.
 #[derive(Drop)]
-pub struct LastFile {
+struct NamedFile {
     path: String,
     file: File,
 }
 
+impl NamedFile {
+    // The first line that isn't what the file's name says, as far as the file goes.
+    fn misnamed(&self, alloc: Global) -> io::Result<Option<FileLine<'_>>> {
+        let head = head_of(alloc, self.path.as_str())?;
+        let mut begin = [0; HEAD];
+        let count = self.file.read_at(&mut begin, 0)?;
+        let line = line_unlike(head.as_bytes(), &begin[..count]);
+        Ok(line.map(|line| self.at(line)))
+    }
+
+    fn at(&self, line: u64) -> FileLine<'_> {
+        FileLine {
+            path: self.path.as_str(),
+            line,
+        }
+    }
+}
+
+/// A journal's last file, open for reading and writing, and the one before it, if it is there, for reading.
+#[derive(Drop)]
+pub struct LastFile {
+    alloc: Global,
+    last: NamedFile,
+    before: Option<NamedFile>,
+}
+
 impl LastFile {
-    pub(crate) fn open<R: Files<File = File>>(rt: &R, path: String) -> io::Result<LastFile> {
-        let file = File::options()
-            .read(true)
-            .write(true)
-            .open(rt, path.as_str())?;
-        Ok(LastFile { path, file })
+    pub(crate) fn open<R: Files<File = File>>(
+        rt: &R,
+        alloc: Global,
+        last: String,
+        before: Option<String>,
+    ) -> Result<LastFile, FolderFault> {
+        let mut how = File::options();
+        how.read(true);
+        let before = match before {
+            Some(path) => Some(NamedFile {
+                file: open_regular(rt, alloc, &how, path.as_str())?,
+                path,
+            }),
+            None => None,
+        };
+        how.write(true);
+        let last = NamedFile {
+            file: open_regular(rt, alloc, &how, last.as_str())?,
+            path: last,
+        };
+        Ok(LastFile {
+            alloc,
+            last,
+            before,
+        })
     }
 
-    /// Its path.
+    /// The last file's path.
     pub fn path(&self) -> &str {
-        self.path.as_str()
+        self.last.path.as_str()
     }
 
-    /// Its text, to be read from the start.
-    pub fn text(&self) -> &File {
-        &self.file
+    /// The last file itself.
+    pub fn file(&self) -> &File {
+        &self.last.file
     }
 
-    /// Cuts it after this many octets, appends these, and waits until a crash keeps both.
+    /// The first line in which a file's begin isn't what its name says: `V 2` after no entry, and else a base
+    /// of as many entries.
+    pub fn misnamed(&self) -> io::Result<Option<FileLine<'_>>> {
+        if let Some(before) = &self.before {
+            let line = before.misnamed(self.alloc)?;
+            if line.is_some() {
+                return Ok(line);
+            }
+        }
+        self.last.misnamed(self.alloc)
+    }
+
+    /// After how many entries the last file begins, in digits, if the files before it are not here.
+    pub fn begins_alone(&self) -> Option<&str> {
+        let digits = file_digits(self.last.path.as_str());
+        if self.before.is_some() || digits.is_empty() {
+            return None;
+        }
+        Some(digits)
+    }
+
+    /// The text of the file before, if any, and then that of the last one. To be read once.
+    pub fn text(&self) -> Joined<&File, &File> {
+        Joined::new(self.before.as_ref().map(|it| &it.file), &self.last.file)
+    }
+
+    /// Which line of which file that is.
+    pub fn line_of(&self, line: JoinedLine) -> FileLine<'_> {
+        match (line, &self.before) {
+            (JoinedLine::Before(line), Some(before)) => before.at(line),
+            (JoinedLine::Before(line), None) => self.last.at(line),
+            (JoinedLine::Last(line), _) => self.last.at(line),
+        }
+    }
+
+    /// Cuts the last file after this many octets, appends these, and waits until a crash keeps both.
     pub fn end(self, whole: u64, ending: &[u8]) -> Result<(), JournalFault> {
-        let LastFile { path: _, file } = self;
-        match end_file(file, whole, ending) {
+        match end_file(self.last.file, whole, ending) {
             Ok(()) => Ok(()),
             Err(cause) => Err(JournalFault::Device(Some(cause))),
         }

@@ -5,13 +5,16 @@
 
 mod chronicle;
 mod fault;
+mod files_room;
 mod folder;
 mod group;
+mod joined;
 mod last_file;
 mod names;
 mod policy;
 mod position;
 mod recorder;
+mod regular;
 mod rotation;
 mod shelf;
 mod writer;
@@ -21,7 +24,8 @@ pub use crate::chronicle::{Chronicle, Sealer, Spelled};
 pub use crate::fault::{FolderFault, JournalFault};
 pub use crate::folder::Folder;
 pub use crate::group::{FILE_OCTETS, GroupJournal};
-pub use crate::last_file::LastFile;
+pub use crate::joined::{Joined, JoinedLine};
+pub use crate::last_file::{FileLine, LastFile};
 pub use crate::names::file_name;
 pub use crate::policy::SyncPolicy;
 pub use crate::position::JournalPosition;

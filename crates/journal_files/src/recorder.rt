@@ -4,7 +4,6 @@ ghost use Rattle.std.specs.Prelude.{⊤};
 
 use crate::chronicle::{Chronicle, Sealer};
 use crate::group::GroupJournal;
-use crate::policy::SyncPolicy;
 use crate::shelf::Shelf;
 use counted_io::DeviceFault;
 use journal_tape::ComesUp;
@@ -24,10 +23,14 @@ pub trait Recorder {
     ) -> K::Sealed
         ensures { K.seals sealer.old result sealer.new };
 
+    /// Whether entries may come: the records may grow. It waits for nothing.
+    fn has_room(&self) -> bool;
+
     /// Whether to seal and begin a new file.
     fn is_due<H: Chronicle, R: Wait>(&self, rt: &R, chronicle: &H) -> bool;
 
-    /// Records all, and syncs it if the policy is `Second`: to be called once a second.
+    /// Records all, and syncs it if the policy is `Second`. Fails if the place of the records is no longer
+    /// there. To be called once a second.
     fn see_to<H: Chronicle, R: Wait>(&self, rt: &R, chronicle: &H) -> Result<(), DeviceFault>;
 }
 
@@ -47,6 +50,10 @@ impl Recorder for Unrecorded {
         sealer: &mut K,
     ) -> K::Sealed {
         sealer.seal()
+    }
+
+    fn has_room(&self) -> bool {
+        true
     }
 
     fn is_due<H: Chronicle, R: Wait>(&self, _rt: &R, _chronicle: &H) -> bool {
@@ -72,16 +79,17 @@ impl<S: Shelf + Drop> Recorder for GroupJournal<S> {
         self.rotate(rt, chronicle, sealer)
     }
 
+    fn has_room(&self) -> bool {
+        GroupJournal::has_room(self)
+    }
+
     fn is_due<H: Chronicle, R: Wait>(&self, rt: &R, chronicle: &H) -> bool {
         GroupJournal::is_due(self, rt, chronicle)
     }
 
     fn see_to<H: Chronicle, R: Wait>(&self, rt: &R, chronicle: &H) -> Result<(), DeviceFault> {
         GroupJournal::come_up(self, rt, chronicle)?;
-        match self.policy() {
-            SyncPolicy::Second => self.sync(rt),
-            SyncPolicy::Always | SyncPolicy::Never => Ok(()),
-        }
+        self.tend(rt)
     }
 }
 

@@ -16,4 +16,10 @@ pub trait Shelf {
     fn put_up(&mut self, entries: u64, head: &[u8]) -> Result<Self::Tape, JournalFault>
         ensures { IfOk result (λ tape.
             HasHead (Self.Tape.written tape) (Self.Tape.kept tape) head.now) };
+
+    /// Whether it is still the place that it was: `Gone` if not. To be called each second.
+    fn look(&self) -> Result<(), JournalFault>;
+
+    /// How many octets its files have, those of earlier processes too. It asks for each file.
+    fn octets(&self) -> Result<u64, JournalFault>;
 }

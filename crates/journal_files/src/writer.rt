@@ -1,13 +1,16 @@
 //! Writes a journal: formats what the files lack, and writes that.
 //! One thread has it at a time; `GroupJournal` passes it on.
-ghost use Rattle.std.specs.Prelude.{◌≡◌, [], IfOk, IfSome, OnOk, true};
+ghost use Rattle.std.specs.Prelude.{◌≡◌, ◌≢◌, [], IfOk, IfSome, OnOk, true};
 ghost use Rattle.journal_tape.specs.Crash.{HasKept};
 ghost use Rattle.journal_tape.specs.Journal.{Writes};
+ghost use Rattle.journal_files.specs.declared.policy.SyncPolicy.TheVariants as SyncPolicy;
 ghost use Rattle.journal_files.specs.Writing.{Begins, ComesUpTo, WritesText};
 
 use crate::chronicle::{Chronicle, Sealer, Spelled};
 use crate::fault::JournalFault;
+use crate::files_room::FilesRoom;
 use crate::group::FILE_OCTETS;
+use crate::policy::SyncPolicy;
 use crate::position::JournalPosition;
 use crate::shelf::Shelf;
 use counted_io::Output;
@@ -15,7 +18,7 @@ use journal_tape::{Journal, Tape};
 use std::alloc::Global;
 use std::marker::Model;
 
-// The last file, the end of its text, and its octets, now and at its beginning.
+// The last file, the end of its text, and its octets, now and at its beginning; and the room for all files.
 #[derive(Drop)]
 pub(crate) struct Writer<S: Shelf> {
     alloc: Global,
@@ -25,6 +28,7 @@ pub(crate) struct Writer<S: Shelf> {
     place: JournalPosition,
     octets: u64,
     head: u64,
+    room: FilesRoom,
 }
 
 impl<S: Shelf> Model for Writer<S> {
@@ -39,11 +43,12 @@ impl<S: Shelf> Model for Writer<S> {
 }
 
 impl<S: Shelf> Writer<S> {
-    // Creates a first file.
+    // Creates a first file. All files may have so many octets, if that is limited.
     pub fn new<H: Chronicle>(
         alloc: Global,
         chronicle: &H,
         shelf: S,
+        limit: Option<u64>,
     ) -> Result<Writer<S>, JournalFault>
     where
         S: Drop,
@@ -54,6 +59,10 @@ impl<S: Shelf> Writer<S> {
         let (text, place) = chronicle.begin(&mut output)?;
         let tape = shelf.put_up(place.begun, text.as_slice())?;
         let size = text.len() as u64;
+        let mut room = FilesRoom::new(limit);
+        if room.is_limited() {
+            room.set(shelf.octets()?);
+        }
         Ok(Writer {
             alloc,
             output,
@@ -62,6 +71,7 @@ impl<S: Shelf> Writer<S> {
             place,
             octets: size,
             head: size,
+            room,
         })
     }
 
@@ -74,6 +84,41 @@ impl<S: Shelf> Writer<S> {
     pub fn is_long(&self) -> bool {
         let own = self.octets.saturating_sub(self.head);
         own > FILE_OCTETS && own > self.head
+    }
+
+    // Looks whether the files' place is still there. With the policy `Second`, waits until a crash keeps all
+    // that was written.
+    pub fn tend(&mut self, policy: SyncPolicy) -> Result<(), JournalFault>
+        ensures kept { OnOk result (policy ≡ SyncPolicy.Second
+            → HasKept self.new.noted.written self.new.noted.kept) }
+        ensures same { OnOk result (policy ≡ SyncPolicy.Second
+            → Writes self.old.noted self.new.noted []) }
+        ensures idle { policy ≢ SyncPolicy.Second → self.new ≡ self.old }
+        ensures place { self.new.place ≡ self.old.place }
+    {
+        self.shelf.look()?;
+        self.look_for_room();
+        match policy {
+            SyncPolicy::Second => self.sync(),
+            SyncPolicy::Always | SyncPolicy::Never => Ok(()),
+        }
+    }
+
+    // Whether entries may come.
+    pub fn has_room(&self) -> bool {
+        self.room.is_left()
+    }
+
+    // Where there was no room, counts anew: old files may have been moved away.
+    fn look_for_room(&mut self)
+        ensures { self.new ≡ self.old }
+    {
+        if self.room.is_left() {
+            return;
+        }
+        if let Ok(octets) = self.shelf.octets() {
+            self.room.set(octets);
+        }
     }
 
     // Formats and writes what is missing.
@@ -111,6 +156,7 @@ impl<S: Shelf> Writer<S> {
         self.place = place;
         self.head = text.len() as u64;
         self.octets = self.head;
+        self.room.add(self.head);
         Ok(())
     }
 
@@ -148,6 +194,7 @@ impl<S: Shelf> Writer<S> {
             return Err(JournalFault::Device(self.journal.tape().cause()));
         }
         self.octets = self.octets.saturating_add(text.len() as u64);
+        self.room.add(text.len() as u64);
         Ok(())
     }
 }

@@ -2,3 +2,4 @@
 -- `crates/journal_keepers/src` has the code.
 pub mod Fetching
 pub mod Parts
+pub mod Rooms

@@ -39,6 +39,14 @@ impl<'a, A: ComesUp, F: Fetcher> Fetcher for FetchesBehind<'a, A, F> {
         self.fetcher.stop();
     }
 
+    fn takes_text(&self, octets: u64) -> bool {
+        self.fetcher.takes_text(octets)
+    }
+
+    fn counts_texts(&self, octets: u64) {
+        self.fetcher.counts_texts(octets);
+    }
+
     /// If the wait fails, nothing is fetched: a device's fault.
     fn load_page(
         &self,

@@ -14,8 +14,8 @@ use Rattle.gate_marks.specs.Marks.{Receipt}
 use Rattle.gate_lock.specs.Steps.{DeskAsks, DeskReads, DeskSeals, Somewhere}
 use Rattle.crawl_job.specs.declared.job.Job.{Job}
 use Rattle.crawl_job.specs.declared.job.Outcome.{Outcome}
+use Rattle.page_worker.specs.Newcomers.{RefreshesWithin}
 use Rattle.page_worker.specs.Outcomes.{Works}
-use Rattle.page_worker.specs.Refreshes.{Refreshes}
 use Rattle.page_worker.specs.World.{World}
 
 -- the desk may have condensed the marks of sealed entries
@@ -45,11 +45,12 @@ KeeperReads d b authority m state d2 b2 =
 abbrev pub KeeperSeals : DeskView → BagView → Result Sealed NoMemory → DeskView → BagView → Type 0
 KeeperSeals d b result d2 b2 = Somewhere d (λ old new. DeskSeals d old result new d2) × (b2 ≡ b)
 
--- refresh: a turn of the desk, with the answer that fetches give
-abbrev pub KeeperRefreshes : World → DeskView → BagView → List ℕ → Option (Result Standing BeginRefusal) → DeskView
-    → BagView → Type 0
-KeeperRefreshes world d b authority (Some told) d2 b2 = Refreshes world authority told d d2 × (b2 ≡ b)
-KeeperRefreshes world d b authority None d2 b2 = ⊥
+-- refresh: a turn of the desk, with the answer that fetches give, where so many more authorities may become known
+abbrev pub KeeperRefreshes : World → DeskView → BagView → List ℕ → ℕ → Option (Result Standing BeginRefusal) → ℕ
+    → DeskView → BagView → Type 0
+KeeperRefreshes world d b authority left (Some told) left2 d2 b2 =
+    RefreshesWithin world authority left told left2 d d2 × (b2 ≡ b)
+KeeperRefreshes world d b authority left None left2 d2 b2 = ⊥
 
 -- fetch: the desk's work on a job, with nothing handed out or left to spend; nothing without memory for hops
 abbrev pub KeeperFetches : World → DeskView → BagView → Job → Option (Result Outcome NoMemory) → DeskView → BagView

@@ -3,13 +3,16 @@
 ghost use Rattle.std.specs.Prelude.{◌≡◌, Bool};
 ghost use Rattle.keepers.specs.Bounding.{are_all, has_enough};
 
-/// How many permits a session may have out, and how many authorities it may make known.
+/// How many permits a session may have out, and how many authorities it may make known and entries make.
 #[derive(Clone, Copy, Debug, PartialEq, Eq)]
 pub struct Bounds {
     /// The most permits out, started ones included. The gate's own fetches for it are not counted.
     pub permits: u64,
-    /// How many authorities the gate's fetches for it may make known before these stop.
+    /// How many authorities the gate's fetches for it may make known. Others are refused then.
     pub authorities: u64,
+    /// How many entries of the history it may make before asks, refreshes and fetches are refused. What it
+    /// has out may still be started, given back and finished, and its last fetch may go on.
+    pub entries: u64,
 }
 
 impl Bounds {
@@ -20,6 +23,7 @@ impl Bounds {
         Bounds {
             permits: u64::MAX,
             authorities: u64::MAX,
+            entries: u64::MAX,
         }
     }
 
@@ -30,10 +34,10 @@ impl Bounds {
         self.permits <= out
     }
 
-    /// Whether a session that made so many authorities known gets nothing more fetched.
-    pub(crate) fn has_authorities(self, count: u64) -> bool
-        ensures { result ≡ has_enough self.authorities count }
+    /// Whether a session that made so many entries makes no more by asks, refreshes and fetches.
+    pub(crate) fn has_entries(self, count: u64) -> bool
+        ensures { result ≡ has_enough self.entries count }
     {
-        self.authorities <= count
+        self.entries <= count
     }
 }

@@ -1,25 +1,25 @@
 //! `DeskKeeper`: a desk of a gate, a bag of what the session has out, and a fetcher.
 //! RFC 9309, sections 2.2 to 2.4.
-ghost use Rattle.std.specs.Prelude.{◌≡◌, [], IfOk, Some};
+ghost use Rattle.std.specs.Prelude.{◌≡◌, ◌≤◌, [], IfOk, Some};
 ghost use Rattle.permit_bag.specs.Bags.{held_in};
 ghost use Rattle.gate_lock.specs.Desks.{IsNew, out_of};
-ghost use Rattle.keepers.specs.Bounding.{TellsRefused, are_all};
+ghost use Rattle.keepers.specs.Bounding.{are_all, has_enough, made_since};
 ghost use Rattle.page_worker.specs.World.{world_of};
 ghost use Rattle.keepers.specs.DeskKeeping.{Behind, IsClosed, KeeperAsks, KeeperFetches, KeeperRefreshes, MayCondense};
 
 use crate::answers::standing_answer;
 use crate::bounds::Bounds;
 use crate::counts::{Counts, counts_of};
+use crate::fetch_refusal::refused_fetch;
 use crate::keeper::Keeper;
-use crate::newcomers::Newcomers;
 use crate::visits::Visitors;
 use authority_cache::StandingAnswer;
-use crawl_job::{Hop, Job, Outcome, Refusal};
+use crawl_job::{Job, Outcome, Refusal};
 use fetchers::Fetcher;
 use gate_core::{AskRefusal, BeginRefusal, Denial, NoMemory, Standing, State};
 use gate_history::{Reason, Segment};
 use gate_lock::{Desk, DesksFull, Gate, GateLock, Receipts};
-use page_worker::{Clock, refresh, work};
+use page_worker::{Clock, is_unknown, refresh_within, work_within};
 use path_normal::{Authority, PageUrl, Schemes};
 use permit_bag::Bag;
 use permit_book::{NotOut, PermitNo};
@@ -32,11 +32,12 @@ use std::sync::Wait;
 #[must_use]
 pub struct DeskKeeper<'a, 'g, G: Gate, F: Fetcher, R: Wait> {
     rt: &'a R,
-    gate: &'g GateLock<G>,
     fetcher: &'a F,
     bounds: Bounds,
-    // How many authorities the session made known.
+    // How many more authorities the session may make known.
     newcomers: u64,
+    // How many entries the desk had made when the session began.
+    begun: u64,
     desk: Desk<'g, G>,
     bag: Bag<G>,
     ghost is_of: { bag.desk ≡ desk.no },
@@ -90,16 +91,17 @@ impl<'a, 'g, G: Gate, F: Fetcher, R: Wait> DeskKeeper<'a, 'g, G, F, R> {
         ensures desk { IfOk result (λ keeper. IsNew gate.now keeper.desk) }
         ensures bag { IfOk result (λ keeper. (keeper.bag.permits ≡ []) × (keeper.bag.runs ≡ [])) }
         ensures fetcher { IfOk result (λ keeper. keeper.fetcher ≡ fetcher.entry) }
-        ensures bounds { IfOk result (λ keeper. (keeper.bounds ≡ bounds) × (keeper.newcomers ≡ 0)) }
+        ensures bounds { IfOk result (λ keeper. (keeper.bounds ≡ bounds)
+            × (keeper.newcomers ≡ bounds.authorities) × (keeper.begun ≡ 0)) }
     {
         let desk = gate.desk(rt, alloc)?;
         match Bag::new(alloc, &desk) {
             Ok(bag) => Ok(DeskKeeper {
                 rt,
-                gate,
                 fetcher,
                 bounds,
-                newcomers: 0,
+                newcomers: bounds.authorities,
+                begun: 0,
                 desk,
                 bag,
             }),
@@ -116,6 +118,7 @@ impl<'a, 'g, G: Gate, F: Fetcher, R: Wait> DeskKeeper<'a, 'g, G, F, R> {
         ensures fetcher { self.new.fetcher ≡ self.old.fetcher }
         ensures bounds { self.new.bounds ≡ self.old.bounds }
         ensures newcomers { self.new.newcomers ≡ self.old.newcomers }
+        ensures begun { self.new.begun ≡ self.old.begun }
         ensures bag { self.new.bag ≡ self.old.bag }
         ensures desk { MayCondense self.old.desk self.new.desk }
     {
@@ -128,6 +131,7 @@ impl<'a, 'g, G: Gate, F: Fetcher, R: Wait> DeskKeeper<'a, 'g, G, F, R> {
         ensures fetcher { self.new.fetcher ≡ self.old.fetcher }
         ensures bounds { self.new.bounds ≡ self.old.bounds }
         ensures newcomers { self.new.newcomers ≡ self.old.newcomers }
+        ensures begun { self.new.begun ≡ self.old.begun }
         ensures asks { Behind self.old.desk (λ d. KeeperAsks d self.old.bag token url moment result
             self.new.desk self.new.bag) }
     {
@@ -154,15 +158,23 @@ impl<'a, 'g, G: Gate, F: Fetcher, R: Wait> DeskKeeper<'a, 'g, G, F, R> {
     ) -> Result<Standing, BeginRefusal>
         ensures fetcher { self.new.fetcher ≡ self.old.fetcher }
         ensures bounds { self.new.bounds ≡ self.old.bounds }
+        ensures begun { self.new.begun ≡ self.old.begun }
         ensures refreshes { Behind self.old.desk (λ d. KeeperRefreshes
             (world_of (F.gives self.old.fetcher.now) (F.follows self.old.fetcher.now) (C.reads clock.now))
-            d self.old.bag authority.now (Some result) self.new.desk self.new.bag) }
+            d self.old.bag authority.now self.old.newcomers
+            (Some result) self.new.newcomers self.new.desk self.new.bag) }
     {
         self.make_way();
-        let fetcher = Newcomers::new(self.rt, self.gate, self.fetcher, self.newcomers);
-        let told = refresh(self.rt, alloc, authority, &mut self.desk, &fetcher, clock);
-        self.newcomers = fetcher.count.get();
-        told
+        let newcomers = &mut self.newcomers;
+        refresh_within(
+            self.rt,
+            alloc,
+            authority,
+            &mut self.desk,
+            self.fetcher,
+            clock,
+            newcomers,
+        )
     }
 
     fn fetch_desk<C: Clock>(
@@ -173,18 +185,35 @@ impl<'a, 'g, G: Gate, F: Fetcher, R: Wait> DeskKeeper<'a, 'g, G, F, R> {
     ) -> Result<Outcome, NoMemory>
         ensures fetcher { self.new.fetcher ≡ self.old.fetcher }
         ensures bounds { self.new.bounds ≡ self.old.bounds }
+        ensures begun { self.new.begun ≡ self.old.begun }
+        ensures newcomers { self.new.newcomers ≤ self.old.newcomers }
         ensures fetches { Behind self.old.desk (λ d. KeeperFetches
             (world_of (F.gives self.old.fetcher.now) (F.follows self.old.fetcher.now) (C.reads clock.now))
             d self.old.bag job (Some result) self.new.desk self.new.bag) }
     {
         self.make_way();
-        let fetcher = Newcomers::new(self.rt, self.gate, self.fetcher, self.newcomers);
-        let worked = work(self.rt, alloc, job, &mut self.desk, &fetcher, clock);
-        self.newcomers = fetcher.count.get();
-        match worked {
+        let newcomers = &mut self.newcomers;
+        match work_within(
+            self.rt,
+            alloc,
+            job,
+            &mut self.desk,
+            self.fetcher,
+            clock,
+            newcomers,
+        ) {
             Ok(outcome) => Ok(outcome),
             Err(_) => Err(NoMemory),
         }
+    }
+
+    // Whether the session made as many entries as it may.
+    fn has_entries(&self) -> bool
+        ensures { result ≡ has_enough self.now.bounds.entries
+            (made_since self.now.begun self.now.desk) }
+    {
+        self.bounds
+            .has_entries(self.desk.share().saturating_sub(self.begun))
     }
 
     /// Ends the last session, and closes the desk.
@@ -193,10 +222,10 @@ impl<'a, 'g, G: Gate, F: Fetcher, R: Wait> DeskKeeper<'a, 'g, G, F, R> {
     {
         let DeskKeeper {
             rt,
-            gate: _,
             fetcher: _,
             bounds: _,
             newcomers: _,
+            begun: _,
             mut desk,
             bag,
         } = self;
@@ -206,46 +235,62 @@ impl<'a, 'g, G: Gate, F: Fetcher, R: Wait> DeskKeeper<'a, 'g, G, F, R> {
 }
 
 impl<'a, 'g, G: Gate, F: Fetcher, R: Wait> Keeper for DeskKeeper<'a, 'g, G, F, R> {
-    ghost use Rattle.std.specs.Prelude.{◌≡◌, true};
+    ghost use Rattle.std.specs.Prelude.{◌≡◌, ◌≤◌, true};
     ghost use Rattle.permit_bag.specs.Bags.{BagFinishes, BagReturns, BagStarts, IsUrlIn};
     ghost use Rattle.page_worker.specs.World.{world_of};
     ghost use Rattle.gate_lock.specs.Desks.{out_of};
-    ghost use Rattle.keepers.specs.Bounding.{Bounded, RefusesAsk, RefusesFetch, RefusesRefresh, has_enough};
+    ghost use Rattle.keepers.specs.Bounding.{Bounded, BoundedFetch, RefusesAsk, RefusesFetch, RefusesRefresh, has_enough, made_since};
+    ghost use Rattle.gate_core.specs.declared.refusal.AskRefusal.TheVariants as asks;
+    ghost use Rattle.crawl_job.specs.declared.hop.Refusal.TheVariants as hops;
     ghost use Rattle.keepers.specs.Counting.{AnswersSome, CountsSome};
     ghost use Rattle.keepers.specs.DeskKeeping.{Behind, KeeperAsks, KeeperEnds, KeeperFetches, KeeperReads, KeeperRefreshes, KeeperSeals};
 
     ghost deals = { record {
       can_fetch = λ _. true;
       schemes = λ k. F.follows k.fetcher.now;
-      asks = λ k token url m result k2.
-          ((k2.fetcher ≡ k.fetcher) × (k2.bounds ≡ k.bounds) × (k2.newcomers ≡ k.newcomers))
-          × Bounded (has_enough k.bounds.permits (out_of k.desk)) (RefusesAsk k.desk k.bag result k2.desk k2.bag)
-          (Behind k.desk (λ d. KeeperAsks d k.bag token url m result k2.desk k2.bag));
-      starts = λ k number token url m result k2.
-          ((k2.fetcher ≡ k.fetcher) × (k2.bounds ≡ k.bounds) × (k2.newcomers ≡ k.newcomers))
+      asks = λ k token url m result k2. ((k2.fetcher ≡ k.fetcher) × (k2.bounds ≡ k.bounds)
+          × (k2.newcomers ≡ k.newcomers) × (k2.begun ≡ k.begun))
+          × Bounded (has_enough k.bounds.entries (made_since k.begun k.desk))
+          (RefusesAsk asks.LogFull k.desk k.bag result k2.desk k2.bag)
+          (Bounded (has_enough k.bounds.permits (out_of k.desk))
+          (RefusesAsk asks.PermitsFull k.desk k.bag result k2.desk k2.bag)
+          (Behind k.desk (λ d. KeeperAsks d k.bag token url m result k2.desk k2.bag)));
+      starts = λ k number token url m result k2. ((k2.fetcher ≡ k.fetcher) × (k2.bounds ≡ k.bounds)
+          × (k2.newcomers ≡ k.newcomers) × (k2.begun ≡ k.begun))
           × BagStarts k.bag k.desk number token url m result k2.bag k2.desk;
       urls = λ k number url. IsUrlIn k.bag number url;
-      returns = λ k number result k2. ((k2.fetcher ≡ k.fetcher) × (k2.bounds ≡ k.bounds) × (k2.newcomers ≡ k.newcomers))
+      returns = λ k number result k2. ((k2.fetcher ≡ k.fetcher) × (k2.bounds ≡ k.bounds)
+          × (k2.newcomers ≡ k.newcomers) × (k2.begun ≡ k.begun))
           × BagReturns k.bag k.desk number result k2.bag k2.desk;
-      finishes = λ k number result k2.
-          ((k2.fetcher ≡ k.fetcher) × (k2.bounds ≡ k.bounds) × (k2.newcomers ≡ k.newcomers))
+      finishes = λ k number result k2. ((k2.fetcher ≡ k.fetcher) × (k2.bounds ≡ k.bounds)
+          × (k2.newcomers ≡ k.newcomers) × (k2.begun ≡ k.begun))
           × BagFinishes k.bag k.desk number result k2.bag k2.desk;
       counts = λ k counts. CountsSome k.desk counts;
       answers = λ k authority result. AnswersSome k.desk authority result;
-      reads = λ k authority m state k2.
-          ((k2.fetcher ≡ k.fetcher) × (k2.bounds ≡ k.bounds) × (k2.newcomers ≡ k.newcomers))
+      reads = λ k authority m state k2. ((k2.fetcher ≡ k.fetcher) × (k2.bounds ≡ k.bounds)
+          × (k2.newcomers ≡ k.newcomers) × (k2.begun ≡ k.begun))
           × KeeperReads k.desk k.bag authority m state k2.desk k2.bag;
-      refreshes = λ reads k authority told k2. ((k2.fetcher ≡ k.fetcher) × (k2.bounds ≡ k.bounds))
-          × Bounded (has_enough k.bounds.authorities k.newcomers) (RefusesRefresh k.desk k.bag told k2.desk k2.bag)
+      refreshes = λ reads k authority told k2. ((k2.fetcher ≡ k.fetcher) × (k2.bounds ≡ k.bounds)
+          × (k2.begun ≡ k.begun))
+          × Bounded (has_enough k.bounds.entries (made_since k.begun k.desk))
+          (RefusesRefresh k.desk k.bag k.newcomers told k2.newcomers k2.desk k2.bag)
           (Behind k.desk (λ d. KeeperRefreshes
-          (world_of (F.gives k.fetcher.now) (F.follows k.fetcher.now) reads) d k.bag authority told k2.desk k2.bag));
-      fetches = λ reads k job told k2. ((k2.fetcher ≡ k.fetcher) × (k2.bounds ≡ k.bounds))
-          × Bounded (has_enough k.bounds.authorities k.newcomers) (RefusesFetch k.desk k.bag told k2.desk k2.bag)
-          (Behind k.desk (λ d. KeeperFetches
-          (world_of (F.gives k.fetcher.now) (F.follows k.fetcher.now) reads) d k.bag job told k2.desk k2.bag));
-      seals = λ k result k2. ((k2.fetcher ≡ k.fetcher) × (k2.bounds ≡ k.bounds) × (k2.newcomers ≡ k.newcomers))
+          (world_of (F.gives k.fetcher.now) (F.follows k.fetcher.now) reads)
+          d k.bag authority k.newcomers told k2.newcomers k2.desk k2.bag));
+      fetches = λ reads k job told k2. ((k2.fetcher ≡ k.fetcher) × (k2.bounds ≡ k.bounds)
+          × (k2.begun ≡ k.begun) × (k2.newcomers ≤ k.newcomers))
+          × Bounded (has_enough k.bounds.entries (made_since k.begun k.desk))
+          (RefusesFetch hops.LogFull k.desk k.bag told k2.desk k2.bag)
+          (BoundedFetch k.newcomers k.desk job
+          (λ d. RefusesFetch hops.AuthoritiesFull d k.bag told k2.desk k2.bag)
+          (λ d. Behind d (λ d1. KeeperFetches
+          (world_of (F.gives k.fetcher.now) (F.follows k.fetcher.now) reads)
+          d1 k.bag job told k2.desk k2.bag)));
+      seals = λ k result k2. ((k2.fetcher ≡ k.fetcher) × (k2.bounds ≡ k.bounds)
+          × (k2.newcomers ≡ k.newcomers) × (k2.begun ≡ k.begun))
           × KeeperSeals k.desk k.bag result k2.desk k2.bag;
-      ends = λ k k2. ((k2.fetcher ≡ k.fetcher) × (k2.bounds ≡ k.bounds) × (k2.newcomers ≡ 0))
+      ends = λ k k2. ((k2.fetcher ≡ k.fetcher) × (k2.bounds ≡ k.bounds)
+          × (k2.newcomers ≡ k.bounds.authorities) × (made_since k2.begun k2.desk ≡ 0))
           × KeeperEnds k.desk k.bag k2.desk k2.bag;
     } };
 
@@ -258,6 +303,9 @@ impl<'a, 'g, G: Gate, F: Fetcher, R: Wait> Keeper for DeskKeeper<'a, 'g, G, F, R
     }
 
     fn ask(&mut self, token: Token, url: PageUrl, moment: u64) -> Result<PermitNo, AskRefusal> {
+        if self.has_entries() {
+            return Err(AskRefusal::LogFull);
+        }
         if self.bounds.has_permits(self.desk.out()) {
             return Err(AskRefusal::PermitsFull);
         }
@@ -313,8 +361,8 @@ impl<'a, 'g, G: Gate, F: Fetcher, R: Wait> Keeper for DeskKeeper<'a, 'g, G, F, R
         authority: &Authority,
         clock: &C,
     ) -> Option<Result<Standing, BeginRefusal>> {
-        if self.bounds.has_authorities(self.newcomers) {
-            return Some(Err(BeginRefusal::AuthoritiesFull));
+        if self.has_entries() {
+            return Some(Err(BeginRefusal::LogFull));
         }
         Some(self.refresh_desk(alloc, authority, clock))
     }
@@ -325,8 +373,11 @@ impl<'a, 'g, G: Gate, F: Fetcher, R: Wait> Keeper for DeskKeeper<'a, 'g, G, F, R
         job: Job,
         clock: &C,
     ) -> Option<Result<Outcome, NoMemory>> {
-        if self.bounds.has_authorities(self.newcomers) {
-            return Some(refused(alloc));
+        if self.has_entries() {
+            return Some(refused_fetch(alloc, Refusal::LogFull));
+        }
+        if self.newcomers == 0 && is_unknown(self.rt, &mut self.desk, job.url.authority()) {
+            return Some(refused_fetch(alloc, Refusal::AuthoritiesFull));
         }
         Some(self.fetch_desk(alloc, job, clock))
     }
@@ -337,20 +388,7 @@ impl<'a, 'g, G: Gate, F: Fetcher, R: Wait> Keeper for DeskKeeper<'a, 'g, G, F, R
 
     fn end(&mut self) {
         self.bag.clear(self.rt, &mut self.desk);
-        self.newcomers = 0;
+        self.newcomers = self.bounds.authorities;
+        self.begun = self.desk.share();
     }
-}
-
-// The outcome of a fetch if no further authority may become known.
-fn refused(alloc: Global) -> Result<Outcome, NoMemory>
-    ensures { TellsRefused (Some result) }
-{
-    let mut hops = Vec::new(alloc);
-    if hops.push(Hop::Refused(Refusal::AuthoritiesFull)).is_err() {
-        return Err(NoMemory);
-    }
-    Ok(Outcome {
-        hops,
-        body: Vec::new(alloc),
-    })
 }

@@ -7,13 +7,14 @@ mod book_keeper;
 mod bounds;
 mod counts;
 mod desk_keeper;
+mod fetch_refusal;
 mod keeper;
-mod newcomers;
 mod visits;
 
 pub use book_keeper::BookKeeper;
 pub use bounds::Bounds;
 pub use counts::Counts;
 pub use desk_keeper::{DeskKeeper, NoKeeper};
+pub use fetch_refusal::refused_fetch;
 pub use keeper::Keeper;
 pub use visits::{Visitors, Visits};

@@ -1,11 +1,11 @@
 //! Overseers of a server connect at their own listener, so clients that take all workers don't block them.
-//! They are served one at a time.
+//! They are served one at a time, and a silent one leaves its place to the next.
 
 use crate::fault::ServeFault;
 use crate::recorded::Recorded;
 use crate::server::Server;
 use crate::warden::Alarm;
-use client_connections::{AcceptFault, ClientStream, Listener, Waiting, close};
+use client_connections::{AcceptFault, ClientStream, Listener, OneByOne, Seated, Waiting, close};
 use command_server::{FirstLine, NumberedClock, serve_overseer};
 use counted_io::{Counted, DeviceFault};
 use fetchers::Fetcher;
@@ -81,13 +81,14 @@ impl<F: Fetcher, C: NumberedClock, A: Alarm, R: Wait + time::Clock> Server<'_, F
         left: &AtomicU64,
         keeper: &mut K,
     ) -> Result<(), DeviceFault> {
+        let overseers = OneByOne::new(self.rt, listener);
         for _ in self.rt.forever() {
             if left.load(Ordering::SeqCst) == 0 {
                 return Ok(());
             }
-            match listener.accept(self.rt) {
+            match overseers.accept() {
                 Ok(stream) => {
-                    self.serve_one(recorded, stream, keeper);
+                    self.serve_one(recorded, &overseers, stream, keeper);
                     recorded.journal.come_up(self.rt, &recorded.chronicle)?;
                 }
                 Err(AcceptFault::Want) => {}
@@ -102,15 +103,18 @@ impl<F: Fetcher, C: NumberedClock, A: Alarm, R: Wait + time::Clock> Server<'_, F
         unreachable!()
     }
 
-    // Serves one to its end. A fault of its session ends only its connection.
+    // Serves one to its end, or until it is silent while another one waits. A fault of its session ends
+    // only its connection.
     fn serve_one<G: Gate, J: Recorder, K: Keeper>(
         &self,
         recorded: &Recorded<'_, G, J, R>,
+        overseers: &OneByOne<'_, R>,
         stream: TcpStream,
         keeper: &mut K,
     ) {
         let waiting = Cell::new(Waiting::new(self.patience));
-        let reader = ClientStream::new(self.rt, &stream, &waiting);
+        let seated = Seated::new(self.rt, &stream, overseers);
+        let reader = ClientStream::new(self.rt, seated, &waiting);
         let writer = ClientStream::new(self.rt, &stream, &waiting);
         self.oversee_lines(recorded, reader, writer, keeper);
         close(self.rt, stream);

@@ -11,8 +11,11 @@ use crate::recorded::Recorded;
 use crate::server::Server;
 use command_server::{NumberedClock, next_reading};
 use fetchers::Fetcher;
+use gate_core::Book;
+use gate_history::Entry;
 use gate_lock::{Desk, Gate, GateLock, Receipts};
 use journal_files::Recorder;
+use robots_verdict::Said;
 use std::sync::Wait;
 use std::sync::atomic::{AtomicU64, Ordering};
 use std::time::Duration;
@@ -33,12 +36,14 @@ pub trait Alarm {
     fn log_is_full(&self);
 }
 
-/// The last sweep, the number of the clock's next reading, and whether the full history was reported.
+/// The last sweep, the number of the clock's next reading, whether the full history was reported, and the
+/// entries before the base whose robots texts were counted.
 #[derive(Clone, Copy)]
 struct Rounds {
     swept: u64,
     number: u64,
     told: bool,
+    counted: u64,
 }
 
 impl<F: Fetcher, C: NumberedClock, A: Alarm, R: Wait + time::Clock> Server<'_, F, C, A, R> {
@@ -81,12 +86,14 @@ impl<F: Fetcher, C: NumberedClock, A: Alarm, R: Wait + time::Clock> Server<'_, F
             swept: self.clock.read(0),
             number: next_reading(0),
             told: false,
+            counted: 0,
         };
         for _ in self.rt.forever() {
             if left.load(Ordering::SeqCst) == 0 {
                 return;
             }
             self.see_to(desk, &mut rounds);
+            self.count_texts(desk, &mut rounds);
             self.record(clerk);
             thread::sleep(self.rt, Duration::from_millis(NAP_MILLISECONDS));
         }
@@ -97,6 +104,19 @@ impl<F: Fetcher, C: NumberedClock, A: Alarm, R: Wait + time::Clock> Server<'_, F
         if clerk.look().is_err() {
             // If there is no descriptor, the next look tries again.
             let _ = self.listener.shut();
+        }
+    }
+
+    // Counts the robots texts that are kept, once behind each seal: it may have handed some out.
+    fn count_texts<G: Gate>(&self, desk: &Desk<'_, G>, rounds: &mut Rounds)
+        ensures swept { rounds.new.swept ≡ rounds.old.swept }
+        ensures number { rounds.new.number ≡ rounds.old.number }
+    {
+        let held = desk.lend(self.rt);
+        let base = held.book().base().entries();
+        if rounds.counted != base {
+            rounds.counted = base;
+            self.fetcher.counts_texts(octets_kept(held.book()));
         }
     }
 
@@ -124,6 +144,31 @@ impl<F: Fetcher, C: NumberedClock, A: Alarm, R: Wait + time::Clock> Server<'_, F
             // If memory ran out, the next sweep tries again.
             let _ = desk.sweep(self.rt, now);
         }
+    }
+}
+
+// The octets of the robots texts in a history and its base.
+fn octets_kept(book: &Book) -> u64 {
+    let standing = book.base().standing().iter().map(|answer| &answer.says);
+    let come = book.history().iter().filter_map(answer_in);
+    standing
+        .chain(come)
+        .map(octets_of)
+        .fold(0, u64::saturating_add)
+}
+
+// What an entry says of an answer that came.
+fn answer_in(entry: &Entry) -> Option<&Said> {
+    match entry {
+        Entry::Arrived { says, .. } => Some(says),
+        _ => None,
+    }
+}
+
+fn octets_of(says: &Said) -> u64 {
+    match says {
+        Said::Rules(handle) => handle.policy().text().bytes().len() as u64,
+        Said::Open(_) | Said::Closed(_) => 0,
     }
 }
 

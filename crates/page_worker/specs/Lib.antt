@@ -1,7 +1,7 @@
--- Definitions for jobs, refreshes, and the crate's clock.
-pub mod Clock
+-- Definitions for jobs and refreshes.
 pub mod Closings
 pub mod Limits
+pub mod Newcomers
 pub mod OutcomeLaws
 pub mod Outcomes
 pub mod Refreshes

@@ -5,13 +5,15 @@
 mod clock;
 mod event;
 pub mod laws;
+mod newcomers;
 mod refreshing;
 mod stale;
 mod way_on;
 mod worker;
 mod working;
 
-pub use clock::{Clock, SystemClock};
+pub use clock::Clock;
 pub use event::{ClosedBy, Event, EventObserver};
-pub use refreshing::refresh;
-pub use working::{work, work_observed};
+pub use newcomers::is_unknown;
+pub use refreshing::{refresh, refresh_within};
+pub use working::{work, work_observed, work_within};

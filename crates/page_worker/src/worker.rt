@@ -37,13 +37,14 @@ pub(crate) struct Worker<'a, F: Fetcher, C: Clock, N: EventObserver, R: Wait> {
 }
 
 impl<F: Fetcher, C: Clock, N: EventObserver, R: Wait> Worker<'_, F, C, N, R> {
-    /// Makes the hops of a job, which has room for them.
+    /// Makes the hops of a job, which has room for them. It may make only so many more authorities known.
     pub(crate) fn hops_from<G: Gate>(
         &self,
         token: &Token,
         url: PageUrl,
         room: Vec<Hop>,
         desk: &mut Desk<'_, G>,
+        newcomers: &mut u64,
     ) -> Outcome
         requires empty { room.items ≡ [] }
         requires room { max_hops ≤ vec_capacity room }
@@ -52,11 +53,12 @@ impl<F: Fetcher, C: Clock, N: EventObserver, R: Wait> Worker<'_, F, C, N, R> {
             token.now url result.hops.items result.body.items) desk.old desk.new }
         ensures no { desk.new.no ≡ desk.old.no }
         ensures out { KeepsOut desk.old desk.new }
+        ensures newcomers { newcomers.new ≤ newcomers.old }
     {
         let mut hops = room;
         let mut url = url;
         loop {
-            match self.hop_at(token, url, hops.len() as u64, desk) {
+            match self.hop_at(token, url, hops.len() as u64, desk, newcomers) {
                 WayOn::Ends(hop, body) => {
                     self.notes.sees(Event::Ends(&hop));
                     hops.push_reserved(hop);
@@ -86,6 +88,7 @@ impl<F: Fetcher, C: Clock, N: EventObserver, R: Wait> Worker<'_, F, C, N, R> {
         url: PageUrl,
         followed: u64,
         desk: &mut Desk<'_, G>,
+        newcomers: &mut u64,
     ) -> WayOn
         ensures tells { AddsEntries (AfterRefresh
             (world_of (F.gives self.now.fetcher.now) (F.follows self.now.fetcher.now) (C.reads self.now.clock.now)) url
@@ -94,13 +97,14 @@ impl<F: Fetcher, C: Clock, N: EventObserver, R: Wait> Worker<'_, F, C, N, R> {
             token.now url followed result)) desk.old desk.new }
         ensures no { desk.new.no ≡ desk.old.no }
         ensures out { KeepsOut desk.old desk.new }
+        ensures newcomers { newcomers.new ≤ newcomers.old }
     {
         self.notes.sees(Event::Begins {
             before: followed,
             token,
             url: &url,
         });
-        let seen = self.see_to_answer(&url, desk);
+        let seen = self.see_to_answer(&url, desk, newcomers);
         self.notes.sees(Event::Answered(url.authority()));
         if let Err(refusal) = seen {
             return WayOn::Ends(Hop::Refused(refusal), Vec::new(self.alloc));
@@ -113,14 +117,20 @@ impl<F: Fetcher, C: Clock, N: EventObserver, R: Wait> Worker<'_, F, C, N, R> {
 
     // Refreshes the answer of a page's authority if none is in force. If another desk does, waits for its
     // answer.
-    fn see_to_answer<G: Gate>(&self, url: &PageUrl, desk: &mut Desk<'_, G>) -> Result<(), Refusal>
+    fn see_to_answer<G: Gate>(
+        &self,
+        url: &PageUrl,
+        desk: &mut Desk<'_, G>,
+        newcomers: &mut u64,
+    ) -> Result<(), Refusal>
         ensures refreshed { AddsEntries
             (MayRefresh (world_of (F.gives self.now.fetcher.now) (F.follows self.now.fetcher.now)
             (C.reads self.now.clock.now)) (authority_of url.now)) desk.old desk.new }
         ensures no { desk.new.no ≡ desk.old.no }
         ensures out { KeepsOut desk.old desk.new }
+        ensures newcomers { newcomers.new ≤ newcomers.old }
     {
-        match self.begin_stale(url, desk, self.clock.now()) {
+        match self.begin_stale(url, desk, self.clock.now(), newcomers) {
             Ok(None) => Ok(()),
             Ok(Some(turn)) => {
                 self.notes.sees(Event::AsksRobots(url.authority()));
@@ -150,15 +160,17 @@ impl<F: Fetcher, C: Clock, N: EventObserver, R: Wait> Worker<'_, F, C, N, R> {
         url: &PageUrl,
         desk: &mut Desk<'_, G>,
         moment: u64,
+        newcomers: &mut u64,
     ) -> Result<Option<RobotsTurn<G>>, BeginRefusal>
         requires { C.reads self.now.clock.now moment }
         ensures begins { MayBeginErrand
             (world_of (F.gives self.now.fetcher.now) (F.follows self.now.fetcher.now) (C.reads self.now.clock.now))
             (authority_of url.now) result desk.old desk.new }
         ensures no { desk.new.no ≡ desk.old.no }
+        ensures newcomers { newcomers.new ≤ newcomers.old }
     {
         let mut held = desk.lend(self.rt);
-        begin_if_stale(url, desk, &mut held, moment)
+        begin_if_stale(url, desk, &mut held, moment, newcomers)
     }
 
     // Asks for a page and, if granted, fetches it once the site's turn comes: a denied page needs no turn.

@@ -1,7 +1,6 @@
 -- What the program's arguments may ask for: each option is in its range, and is
 -- the one matched under its own name. docs/crawlgate.1.md has the ranges.
 use Rattle.std.specs.Prelude.{◌≡◌, ◌≤◌, ℕ, ◌^◌, ◌-◌, IfSome, List, Option, Some, None, codes, string_bytes}
-use Rattle.std.specs.Str.Parse.{digits_value, without_leading_plus}
 use Rattle.clap.specs.Words.{first_value, one_text}
 use Rattle.clap.specs.declared.parser.matches.Found.{Found}
 use Rattle.program_arguments.specs.declared.subcommand.Ahead.{Ahead}
@@ -11,8 +10,10 @@ use Rattle.program_arguments.specs.declared.subcommand.BadJobs.TheVariants as ba
 use Rattle.program_arguments.specs.declared.subcommand.CheckOptions.{CheckOptions}
 use Rattle.program_arguments.specs.declared.subcommand.CheckedText.{CheckedText}
 use Rattle.program_arguments.specs.declared.subcommand.CheckedText.TheVariants.{Input, File}
+use Rattle.program_arguments.specs.Blocks.{AreBlocksOf}
 use Rattle.program_arguments.specs.Contacts.{IsAllowedContact, IsContactOf}
-use Rattle.program_arguments.specs.Journals.{IsJournalOf}
+use Rattle.program_arguments.specs.Journals.{IsJournalOf, IsRoom}
+use Rattle.program_arguments.specs.Numbers.{IsBoundOf, IsBoundWithin, IsNumberOf}
 use Rattle.program_arguments.specs.Tls.{IsLoopback, IsTlsByOf}
 use Rattle.program_arguments.specs.declared.subcommand.Notes.{Notes}
 use Rattle.program_arguments.specs.declared.subcommand.Notes.TheVariants as notes
@@ -23,9 +24,11 @@ use Rattle.program_arguments.specs.declared.subcommand.ServeOptions.{ServeOption
 use Rattle.program_arguments.specs.declared.subcommand.ShiftOptions.{ShiftOptions}
 use Rattle.program_arguments.specs.declared.subcommand.Subcommand.{Subcommand}
 use Rattle.program_arguments.specs.declared.subcommand.Subcommand.TheVariants.{Replay, Export, Lines, Check, Audit, Shift, Serve}
+use Rattle.program_arguments.specs.declared.fetching.Fetching.{Fetching}
 use Rattle.program_arguments.specs.declared.numbers.ClientBounds.{ClientBounds}
 use Rattle.program_arguments.specs.declared.numbers.ServeNumbers.{ServeNumbers}
 use Rattle.program_arguments.specs.declared.numbers.ShiftNumbers.{ShiftNumbers}
+use Rattle.program_arguments.specs.declared.places.ServePlaces.{ServePlaces}
 use Rattle.program_arguments.specs.declared.words.Chosen.{Chosen}
 use Rattle.program_arguments.specs.declared.words.Chosen.TheVariants.{Taken, Refused}
 use Rattle.robots_check.specs.declared.detail.Detail.{Detail}
@@ -35,8 +38,10 @@ use Rattle.client_connections.specs.Ahead.{IsAhead}
 use Rattle.client_connections.specs.Waiting.{IsPatience}
 use Rattle.client_connections.specs.declared.connections.Connections.{Connections}
 use Rattle.client_connections.specs.declared.connections.Connections.TheVariants.{AtMost, Endless}
-use Rattle.gate_core.specs.Limits.{AreLimits}
+use Rattle.gate_core.specs.Limits.{AreLimits, most_authorities, most_entries}
 use Rattle.job_line.specs.Limits.{IsCrew}
+use Rattle.permit_book.specs.Numbers.{most_slots}
+use Rattle.robots_text.specs.Lines.{text_limit}
 use Rattle.path_normal.specs.declared.schemes.Schemes.{Schemes}
 use Rattle.path_normal.specs.declared.schemes.Schemes.TheVariants.{Http, HttpAndHttps}
 use Rattle.gate_core.specs.declared.config.Limits.{Limits}
@@ -58,14 +63,26 @@ pub record AreForShift (options : ShiftOptions) : Type 0 where
   pub times : AreWithin options.times
   pub tls : IfSome options.tls_by IsLoopback
   pub contact : IsAllowedContact options.contact
+  pub journal : IfSome options.journal (λ journal. IsRoom journal.room)
 
 -- the gate's time for lines sent ahead is within the limit
 abbrev pub IsAllowedAhead : Ahead → Type 0
 IsAllowedAhead aheads.Unbounded = Unit {0}
 IsAllowedAhead (aheads.Seconds seconds) = IsAhead seconds
 
--- a server's workers, connections and patience are within their limits; its book's limits and its fetches are as for
--- a shift
+-- what one client may have out, make known and enter, if it is bounded: no more than all clients together
+pub record AreBoundsOfClients (permits authorities entries : Option ℕ) : Type 0 where
+  pub permits_in : IsBoundWithin 1 most_slots permits
+  pub authorities_in : IsBoundWithin 1 most_authorities authorities
+  pub entries_in : IsBoundWithin 1 most_entries entries
+
+-- the octets of robots texts that are kept, if they are bounded: one of the longest fits, and they are no more than a
+-- file may have
+abbrev pub AreTexts : Option ℕ → Type 0
+AreTexts texts = IsBoundWithin text_limit (2 ^ 63 - 1) texts
+
+-- a server's workers, connections and patience are within their limits, and so are the bounds of its clients; its
+-- book's limits and its fetches are as for a shift
 pub record AreForServe (options : ServeOptions) : Type 0 where
   pub crew : IsCrew options.workers
   pub connections : AreServed options.connections
@@ -75,6 +92,15 @@ pub record AreForServe (options : ServeOptions) : Type 0 where
   pub contact : IsAllowedContact options.contact
   pub patience : IsPatience options.patience
   pub ahead : IsAllowedAhead options.ahead
+  pub bounds : AreBoundsOfClients options.client_permits options.client_authorities options.client_entries
+  pub texts : AreTexts options.texts
+  pub journal : IfSome options.journal (λ journal. IsRoom journal.room)
+
+-- the TLS program of what fetches is on this machine, its contact can be a comment, and its journal's room is in range
+pub record AreForFetching (options : Fetching) : Type 0 where
+  pub tls : IfSome options.tls_by IsLoopback
+  pub contact : IsAllowedContact options.contact
+  pub journal : IfSome options.journal (λ journal. IsRoom journal.room)
 
 -- the subcommand's options are in their ranges
 abbrev pub IsInRange : Subcommand → Type 0
@@ -90,20 +116,6 @@ IsInRange (Serve options) = AreForServe options
 abbrev pub IsChosen : Chosen → Type 0
 IsChosen (Taken subcommand) = IsInRange subcommand
 IsChosen (Refused reason) = Unit {0}
-
--- the number matched under this name, by its digits
-abbrev pub IsNumberOf : Found → List ℕ → ℕ → Type 0
-IsNumberOf words name number =
-    (text : List ℕ) × ((one_text words name ≡ Some text) × (number ≡ digits_value 10 (without_leading_plus text)))
-
--- the bound by an option's first value, if any
-abbrev pub IsBoundBy : Option (List ℕ) → Found → List ℕ → ℕ → Type 0
-IsBoundBy None words name bound = bound ≡ 2 ^ 64 - 1
-IsBoundBy (Some text) words name bound = IsNumberOf words name bound
-
--- the bound is the number matched under this name, else unlimited
-abbrev pub IsBoundOf : Found → List ℕ → ℕ → Type 0
-IsBoundOf words name bound = IsBoundBy (first_value words name) words name bound
 
 -- the book's limits but its first generation are those matched, each under its own name
 pub record AreLimitsOf (words : Found) (limits : Limits) : Type 0 where
@@ -156,9 +168,18 @@ pub record AreShiftNumbersOf (words : Found) (numbers : ShiftNumbers) : Type 0 w
   pub limits : AreLimitsOf words numbers.limits
   pub times : AreTimesOf words numbers.times
 
+-- the options of what fetches are those matched
+pub record AreFetchingOf (words : Found) (options : Fetching) : Type 0 where
+  pub reach : IsReachOf words options.reach
+  pub not_to : AreBlocksOf words options.not_to.items
+  pub tls : IsTlsByOf words options.tls_by
+  pub contact : IsContactOf words options.contact
+  pub journal : IsJournalOf words options.journal
+
 -- the options of a shift are those matched
 pub record AreShiftOf (words : Found) (options : ShiftOptions) : Type 0 where
   pub reach : IsReachOf words options.reach
+  pub not_to : AreBlocksOf words options.not_to.items
   pub tls : IsTlsByOf words options.tls_by
   pub contact : IsContactOf words options.contact
   pub workers : IsNumberOf words (codes "workers") options.workers
@@ -183,10 +204,27 @@ abbrev pub IsPlaceOf : Found → ListenAddress → Type 0
 IsPlaceOf words (places.Port port) = (first_value words (codes "socket") ≡ None) × IsNumberOf words (codes "port") port
 IsPlaceOf words (places.Socket path) = first_value words (codes "socket") ≡ Some (string_bytes path)
 
--- overseers connect at the matched port, if any
-abbrev pub IsSealPortOf : Found → Option ℕ → Type 0
-IsSealPortOf words None = first_value words (codes "seal-port") ≡ None
-IsSealPortOf words (Some port) = IsNumberOf words (codes "seal-port") port
+-- clients connect at the socket of this path
+abbrev pub IsSocketAt : List ℕ → ListenAddress → Type 0
+IsSocketAt text (places.Port port) = ⊥
+IsSocketAt text (places.Socket path) = text ≡ string_bytes path
+
+-- overseers connect at the matched socket, else at the matched port
+abbrev pub IsSealPlaceBy : Found → ListenAddress → Type 0
+IsSealPlaceBy words (places.Port port) =
+    (first_value words (codes "seal-socket") ≡ None) × IsNumberOf words (codes "seal-port") port
+IsSealPlaceBy words (places.Socket path) = first_value words (codes "seal-socket") ≡ Some (string_bytes path)
+
+-- overseers have a place of their own if one was matched
+abbrev pub IsSealPlaceOf : Found → Option ListenAddress → Type 0
+IsSealPlaceOf words None =
+    (first_value words (codes "seal-socket") ≡ None) × (first_value words (codes "seal-port") ≡ None)
+IsSealPlaceOf words (Some place) = IsSealPlaceBy words place
+
+-- clients and overseers connect where the options say
+pub record ArePlacesOf (words : Found) (places : ServePlaces) : Type 0 where
+  pub clients : IsPlaceOf words places.clients
+  pub overseers : IsSealPlaceOf words places.overseers
 
 -- the seconds are the number matched, else unlimited
 abbrev pub IsAheadOf : Found → Ahead → Type 0
@@ -197,6 +235,7 @@ IsAheadOf words (aheads.Seconds seconds) = IsNumberOf words (codes "ahead") seco
 pub record AreClientBounds (bounds : ClientBounds) : Type 0 where
   pub patience : IsPatience bounds.patience
   pub ahead : IsAllowedAhead bounds.ahead
+  pub bounds_in : AreBoundsOfClients bounds.client_permits bounds.client_authorities bounds.client_entries
 
 -- what one client of a server may have is as matched
 pub record AreClientBoundsOf (words : Found) (bounds : ClientBounds) : Type 0 where
@@ -204,6 +243,7 @@ pub record AreClientBoundsOf (words : Found) (bounds : ClientBounds) : Type 0 wh
   pub ahead : IsAheadOf words bounds.ahead
   pub client_permits : IsBoundOf words (codes "client-permits") bounds.client_permits
   pub client_authorities : IsBoundOf words (codes "client-authorities") bounds.client_authorities
+  pub client_entries : IsBoundOf words (codes "client-entries") bounds.client_entries
 
 -- the numbers of a server are in their ranges
 pub record AreServeNumbers (numbers : ServeNumbers) : Type 0 where
@@ -211,32 +251,36 @@ pub record AreServeNumbers (numbers : ServeNumbers) : Type 0 where
   pub connections : AreServed numbers.connections
   pub limits : AreLimits numbers.limits
   pub times : AreWithin numbers.times
+  pub texts : AreTexts numbers.texts
   pub clients : AreClientBounds numbers.clients
 
 -- the numbers of a server are those matched
 pub record AreServeNumbersOf (words : Found) (numbers : ServeNumbers) : Type 0 where
-  pub seal_port : IsSealPortOf words numbers.seal_port
   pub workers : IsNumberOf words (codes "workers") numbers.workers
   pub connections : AreConnectionsOf words numbers.connections
   pub limits : AreLimitsOf words numbers.limits
   pub times : AreTimesOf words numbers.times
+  pub texts : IsBoundOf words (codes "texts") numbers.texts
   pub clients : AreClientBoundsOf words numbers.clients
 
 -- the options of a server are those matched
 pub record AreServeOf (words : Found) (options : ServeOptions) : Type 0 where
   pub reach : IsReachOf words options.reach
+  pub not_to : AreBlocksOf words options.not_to.items
   pub tls : IsTlsByOf words options.tls_by
   pub contact : IsContactOf words options.contact
   pub place : IsPlaceOf words options.place
-  pub seal_port : IsSealPortOf words options.seal_port
+  pub seal_place : IsSealPlaceOf words options.seal_place
   pub workers : IsNumberOf words (codes "workers") options.workers
   pub connections : AreConnectionsOf words options.connections
   pub limits : AreLimitsOf words options.limits
   pub times : AreTimesOf words options.times
+  pub texts : IsBoundOf words (codes "texts") options.texts
   pub patience : IsNumberOf words (codes "patience") options.patience
   pub ahead : IsAheadOf words options.ahead
   pub client_permits : IsBoundOf words (codes "client-permits") options.client_permits
   pub client_authorities : IsBoundOf words (codes "client-authorities") options.client_authorities
+  pub client_entries : IsBoundOf words (codes "client-entries") options.client_entries
   pub journal : IsJournalOf words options.journal
 
 -- the options of a replay are those matched

@@ -2,13 +2,14 @@
 //! The command is built by this table; docs/crawlgate.1.md describes it.
 use crate::help;
 use crate::number_arguments::{
-    AHEAD, AUTHORITIES, CLIENT_AUTHORITIES, CLIENT_PERMITS, CLIENTS, CONNECT, CONNECTIONS, DELAY,
-    FETCH, GENERATION, JOBS, LOG, NumberArgument, PATIENCE, PLACES, PORT, READ, SEAL_PORT, SLOTS,
+    AHEAD, AUTHORITIES, CLIENT_AUTHORITIES, CLIENT_ENTRIES, CLIENT_PERMITS, CLIENTS, CONNECT,
+    CONNECTIONS, DELAY, FETCH, GENERATION, JOBS, JOURNAL_ROOM, LOG, NumberArgument, PATIENCE,
+    PLACES, PORT, READ, SEAL_PORT, SLOTS, TEXTS,
 };
 use crate::word_arguments::{
     CONTACT, ENDLESS, EXPLAIN, EXPORT, EXPORT_OF_SHIFT, HTTPS, HTTPS_PAGES, JOURNAL,
-    JOURNAL_OF_SHIFT, JOURNAL_SYNC, NOTES, PUBLIC, ROBOTS, SKIP, SOCKET, TLS_BY, TOKEN, TSV, URL,
-    WordArgument,
+    JOURNAL_OF_SHIFT, JOURNAL_SYNC, NOT_TO, NOTES, PUBLIC, ROBOTS, SEAL_SOCKET, SKIP, SOCKET,
+    TLS_BY, TOKEN, TSV, URL, WordArgument,
 };
 use std::alloc::{AllocError, Global};
 
@@ -64,6 +65,7 @@ const SHIFT: SubcommandArguments = SubcommandArguments {
         Argument::Number(READ),
         Argument::Number(FETCH),
         Argument::Word(PUBLIC),
+        Argument::Word(NOT_TO),
         Argument::Word(TLS_BY),
         Argument::Word(CONTACT),
         Argument::Word(EXPORT_OF_SHIFT),
@@ -82,6 +84,7 @@ const SERVE: SubcommandArguments = SubcommandArguments {
         Argument::Number(PORT),
         Argument::Word(SOCKET),
         Argument::Number(SEAL_PORT),
+        Argument::Word(SEAL_SOCKET),
         Argument::Number(CLIENTS),
         Argument::Number(CONNECTIONS),
         Argument::Number(SLOTS),
@@ -91,15 +94,19 @@ const SERVE: SubcommandArguments = SubcommandArguments {
         Argument::Number(CONNECT),
         Argument::Number(READ),
         Argument::Number(FETCH),
+        Argument::Number(TEXTS),
         Argument::Word(PUBLIC),
+        Argument::Word(NOT_TO),
         Argument::Word(TLS_BY),
         Argument::Word(CONTACT),
         Argument::Word(JOURNAL),
         Argument::Word(JOURNAL_SYNC),
+        Argument::Number(JOURNAL_ROOM),
         Argument::Number(PATIENCE),
         Argument::Number(AHEAD),
         Argument::Number(CLIENT_PERMITS),
         Argument::Number(CLIENT_AUTHORITIES),
+        Argument::Number(CLIENT_ENTRIES),
         Argument::Word(ENDLESS),
     ],
 };

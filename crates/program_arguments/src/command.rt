@@ -77,7 +77,9 @@ fn arg_of<'a>(
     text: &'a ArgumentText,
 ) -> Result<Arg<'a>, AllocError> {
     match argument {
-        Argument::Number(argument) => Ok(number(alloc, argument.option, text)),
+        Argument::Number(argument) => number(alloc, argument.option, text).requires_all(
+            argument.needs,
+        ),
         Argument::Word(argument) => word(alloc, argument, text),
     }
 }
@@ -122,7 +124,7 @@ fn word<'a>(
 // The argument by its name, or by its place.
 fn in_form<'a>(arg: Arg<'a>, argument: &WordArgument) -> Arg<'a> {
     match argument.form {
-        WordForm::Flag | WordForm::Text => arg.long(argument.name),
+        WordForm::Flag | WordForm::Text | WordForm::Texts => arg.long(argument.name),
         WordForm::Word => arg,
         WordForm::Words => arg.num_args(1..),
     }

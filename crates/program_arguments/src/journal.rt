@@ -1,8 +1,9 @@
-//! The folder of a gate's journal, and when it is synced.
+//! The folder of a gate's journal, when it is synced, and its room.
 //! See docs/crawlgate.1.md.
-ghost use Rattle.std.specs.Prelude.{IfErr, IfOk};
+ghost use Rattle.std.specs.Prelude.{IfErr, IfOk, IfSome, codes};
 ghost use Rattle.clap.specs.Words.{found_of};
-ghost use Rattle.program_arguments.specs.Journals.{IsJournalOf, IsSyncOf, NamesNoSync};
+ghost use Rattle.program_arguments.specs.Journals.{IsJournalOf, IsRoom, IsSyncOf, NamesNoSync};
+ghost use Rattle.program_arguments.specs.Numbers.{IsBoundOf};
 
 use crate::subcommand::JournalOptions;
 use clap::ArgMatches;
@@ -30,15 +31,19 @@ pub(crate) fn sync_of(matches: &ArgMatches<'_>) -> Result<SyncPolicy, NoSync>
 pub(crate) fn journal_of(
     alloc: Global,
     sync: SyncPolicy,
+    room: Option<u64>,
     matches: &ArgMatches<'_>,
 ) -> Result<Option<JournalOptions>, AllocError>
-    requires { IsSyncOf (found_of matches.now) sync }
-    ensures { IfOk result (IsJournalOf (found_of matches.now)) }
+    requires sync { IsSyncOf (found_of matches.now) sync }
+    requires room { IsBoundOf (found_of matches.now) (codes "journal-room") room }
+    requires range { IsRoom room }
+    ensures range { IfOk result (λ found. IfSome found (λ journal. IsRoom journal.room)) }
+    ensures words { IfOk result (IsJournalOf (found_of matches.now)) }
 {
     match matches.get_str("journal") {
         Some(name) => {
             let folder = String::from_str(alloc, name)?;
-            Ok(Some(JournalOptions { folder, sync }))
+            Ok(Some(JournalOptions { folder, sync, room }))
         }
         None => Ok(None),
     }

@@ -6,14 +6,17 @@ mod arguments;
 mod checked;
 mod command;
 mod contact;
+mod fetching;
 mod help;
 mod journal;
 mod number_arguments;
 mod number_options;
 mod numbers;
+mod places;
 mod subcommand;
 mod tls;
 mod word_arguments;
+mod word_fault;
 mod words;
 
 pub use subcommand::{

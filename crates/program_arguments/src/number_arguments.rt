@@ -16,6 +16,8 @@ pub(crate) struct NumberArgument {
     pub(crate) usual: Option<u64>,
     /// The help before its range.
     pub(crate) about: &'static str,
+    /// The options that must stand beside it.
+    pub(crate) needs: &'static [&'static str],
 }
 
 /// The permits of a gate.
@@ -23,6 +25,7 @@ pub(crate) const SLOTS: NumberArgument = NumberArgument {
     option: options::SLOTS,
     usual: Some(1_024),
     about: "Permits that may be out at a time",
+    needs: &[],
 };
 
 /// The first generation of a replay.
@@ -30,6 +33,7 @@ pub(crate) const GENERATION: NumberArgument = NumberArgument {
     option: options::GENERATION,
     usual: Some(1),
     about: "Generation of the first permit of each slot",
+    needs: &[],
 };
 
 /// The entries of a gate.
@@ -37,6 +41,7 @@ pub(crate) const LOG: NumberArgument = NumberArgument {
     option: options::LOG,
     usual: Some(MAX_LOG),
     about: "Entries of the history",
+    needs: &[],
 };
 
 /// The sites that a gate knows.
@@ -44,6 +49,7 @@ pub(crate) const AUTHORITIES: NumberArgument = NumberArgument {
     option: options::AUTHORITIES,
     usual: Some(MAX_AUTHORITIES),
     about: "Authorities that are known at a time",
+    needs: &[],
 };
 
 /// The permits of one site.
@@ -51,6 +57,7 @@ pub(crate) const PLACES: NumberArgument = NumberArgument {
     option: options::PLACES,
     usual: Some(MAX_PLACES),
     about: "Permits that may be out for an authority at a time",
+    needs: &[],
 };
 
 /// The workers of a shift.
@@ -58,6 +65,7 @@ pub(crate) const JOBS: NumberArgument = NumberArgument {
     option: options::JOBS,
     usual: Some(4),
     about: "Jobs that are done at a time",
+    needs: &[],
 };
 
 /// The pause at a site, in a shift.
@@ -65,6 +73,7 @@ pub(crate) const DELAY: NumberArgument = NumberArgument {
     option: options::DELAY,
     usual: Some(0),
     about: "Seconds between the begins of two fetches at a site",
+    needs: &[],
 };
 
 /// The time of a connection.
@@ -72,6 +81,7 @@ pub(crate) const CONNECT: NumberArgument = NumberArgument {
     option: options::CONNECT,
     usual: Some(CONNECT_SECONDS),
     about: "Seconds for a connection to one address",
+    needs: &[],
 };
 
 /// The time of a read or a write.
@@ -79,6 +89,7 @@ pub(crate) const READ: NumberArgument = NumberArgument {
     option: options::READ,
     usual: Some(STEP_SECONDS),
     about: "Seconds for one read or one write",
+    needs: &[],
 };
 
 /// The time of a whole fetch.
@@ -86,6 +97,7 @@ pub(crate) const FETCH: NumberArgument = NumberArgument {
     option: options::FETCH,
     usual: Some(WHOLE_SECONDS),
     about: "Seconds for a page, or a robots file with its redirects",
+    needs: &[],
 };
 
 /// The port for clients.
@@ -93,6 +105,7 @@ pub(crate) const PORT: NumberArgument = NumberArgument {
     option: options::PORT,
     usual: Some(0),
     about: "Port to listen at, where 0 takes one that is free",
+    needs: &[],
 };
 
 /// The port for overseers.
@@ -100,6 +113,7 @@ pub(crate) const SEAL_PORT: NumberArgument = NumberArgument {
     option: options::SEAL_PORT,
     usual: None,
     about: "Port for SEAL, INFO, WHY, STATE and QUIT alone, beside the clients; 0 takes one that is free",
+    needs: &[],
 };
 
 /// The workers of a server.
@@ -107,6 +121,7 @@ pub(crate) const CLIENTS: NumberArgument = NumberArgument {
     option: options::CLIENTS,
     usual: Some(4),
     about: "Clients that are served at a time",
+    needs: &[],
 };
 
 /// The connections of a server.
@@ -114,6 +129,7 @@ pub(crate) const CONNECTIONS: NumberArgument = NumberArgument {
     option: options::CONNECTIONS,
     usual: Some(MAX_CONNECTIONS),
     about: "Connections that are taken in all",
+    needs: &[],
 };
 
 /// How long to wait for a client.
@@ -121,6 +137,7 @@ pub(crate) const PATIENCE: NumberArgument = NumberArgument {
     option: options::PATIENCE,
     usual: Some(PATIENCE_SECONDS),
     about: "Seconds that a client is waited for between two ends of lines",
+    needs: &[],
 };
 
 /// How long the gate may fetch for lines that a client sent ahead.
@@ -128,6 +145,7 @@ pub(crate) const AHEAD: NumberArgument = NumberArgument {
     option: options::AHEAD,
     usual: None,
     about: "Seconds of fetches for lines that a client sends ahead; no bound, where it is left out",
+    needs: &[],
 };
 
 /// The permits of one client.
@@ -135,6 +153,7 @@ pub(crate) const CLIENT_PERMITS: NumberArgument = NumberArgument {
     option: options::CLIENT_PERMITS,
     usual: None,
     about: "Permits that one client may have out; all, where it is left out",
+    needs: &[],
 };
 
 /// The sites that one client may make known.
@@ -142,6 +161,31 @@ pub(crate) const CLIENT_AUTHORITIES: NumberArgument = NumberArgument {
     option: options::CLIENT_AUTHORITIES,
     usual: None,
     about: "Authorities that may become known by one client; all, where it is left out",
+    needs: &[],
+};
+
+/// The entries of one client.
+pub(crate) const CLIENT_ENTRIES: NumberArgument = NumberArgument {
+    option: options::CLIENT_ENTRIES,
+    usual: None,
+    about: "Entries of the history that one client may make; all, where it is left out",
+    needs: &[],
+};
+
+/// The octets of the robots texts that a server keeps.
+pub(crate) const TEXTS: NumberArgument = NumberArgument {
+    option: options::TEXTS,
+    usual: None,
+    about: "Octets of all robots.txt files that are kept, past which a further one closes its site; all, where it is left out",
+    needs: &[],
+};
+
+/// The octets of a journal's files.
+pub(crate) const JOURNAL_ROOM: NumberArgument = NumberArgument {
+    option: options::JOURNAL_ROOM,
+    usual: None,
+    about: "Octets that the journal's files may have together; all, where it is left out",
+    needs: &["journal"],
 };
 
 /// Whether the defaults of the limits are those of a book. Always true.

@@ -5,6 +5,13 @@ use gate_core::{MAX_AUTHORITIES, MAX_LOG, MAX_PLACES};
 use http_client::{CONNECT_SECONDS, STEP_SECONDS, WHOLE_SECONDS};
 use job_line::MAX_WORKERS;
 use permit_book::{LAST_GENERATION, MAX_SLOTS};
+use robots_text::MAX_TEXT;
+
+// The least octets that a journal's files may be given: more than its longest entry takes.
+const MIN_JOURNAL_ROOM: u64 = 1 << 23;
+
+// The most octets that files or texts may be given: those that a file may have.
+const MAX_ROOM: u64 = (1 << 63) - 1;
 
 /// An option that is a number from `least` to `most`.
 #[derive(Clone, Copy)]
@@ -91,6 +98,20 @@ pub(crate) const PORT: NumberOption = NumberOption {
     most: 65_535,
 };
 
+/// The octets of the robots texts that a server keeps.
+pub(crate) const TEXTS: NumberOption = NumberOption {
+    name: "texts",
+    least: MAX_TEXT as u64,
+    most: MAX_ROOM,
+};
+
+/// The octets of a journal's files.
+pub(crate) const JOURNAL_ROOM: NumberOption = NumberOption {
+    name: "journal-room",
+    least: MIN_JOURNAL_ROOM,
+    most: MAX_ROOM,
+};
+
 /// The port for overseers.
 pub(crate) const SEAL_PORT: NumberOption = NumberOption {
     name: "seal-port",
@@ -138,4 +159,11 @@ pub(crate) const CLIENT_AUTHORITIES: NumberOption = NumberOption {
     name: "client-authorities",
     least: 1,
     most: MAX_AUTHORITIES,
+};
+
+/// The entries of one client.
+pub(crate) const CLIENT_ENTRIES: NumberOption = NumberOption {
+    name: "client-entries",
+    least: 1,
+    most: MAX_LOG,
 };

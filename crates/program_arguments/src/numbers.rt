@@ -5,12 +5,13 @@ ghost use Rattle.permit_book.specs.Numbers.{last_generation};
 ghost use Rattle.gate_core.specs.Limits.{AreLimits};
 ghost use Rattle.clap.specs.Words.{found_of};
 ghost use Rattle.client_connections.specs.Accepts.{AreServed};
-ghost use Rattle.program_arguments.specs.Options.{AreClientBounds, AreClientBoundsOf, AreConnectionsOf, AreLimitsOf, AreServeNumbers, AreServeNumbersOf, AreShiftNumbers, AreShiftNumbersOf, AreTimesOf, IsAheadOf, IsAllowedAhead, IsBoundOf, IsNumberOf, IsSealPortOf};
+ghost use Rattle.program_arguments.specs.Options.{AreClientBounds, AreClientBoundsOf, AreConnectionsOf, AreLimitsOf, AreServeNumbers, AreServeNumbersOf, AreShiftNumbers, AreShiftNumbersOf, AreTimesOf, IsAheadOf, IsAllowedAhead};
+ghost use Rattle.program_arguments.specs.Numbers.{IsBoundOf, IsBoundWithin, IsNumberOf};
 ghost use Rattle.http_client.specs.TimeLimits.{AreWithin};
 
 use crate::number_options::{
-    AHEAD, AUTHORITIES, CLIENT_AUTHORITIES, CLIENT_PERMITS, CLIENTS, CONNECT, CONNECTIONS, DELAY,
-    FETCH, JOBS, LOG, NumberOption, PATIENCE, PLACES, READ, SEAL_PORT, SLOTS,
+    AHEAD, AUTHORITIES, CLIENT_AUTHORITIES, CLIENT_ENTRIES, CLIENT_PERMITS, CLIENTS, CONNECT,
+    CONNECTIONS, DELAY, FETCH, JOBS, LOG, NumberOption, PATIENCE, PLACES, READ, SLOTS, TEXTS,
 };
 use crate::subcommand::Ahead;
 use clap::ArgMatches;
@@ -34,13 +35,14 @@ pub(crate) fn limits_of(matches: &ArgMatches<'_>, first_generation: u64) -> Opti
     })
 }
 
-/// The bound from an option; unlimited without it.
-pub(crate) fn bound_of(matches: &ArgMatches<'_>, option: NumberOption) -> Option<u64>
-    ensures { IfSome result (IsBoundOf (found_of matches.now) option.name.now) }
+/// The bound from an option, or none without it; if in range.
+pub(crate) fn bound_of(matches: &ArgMatches<'_>, option: NumberOption) -> Option<Option<u64>>
+    ensures range { IfSome result (IsBoundWithin option.least option.most) }
+    ensures word { IfSome result (IsBoundOf (found_of matches.now) option.name.now) }
 {
     match matches.get_str(option.name) {
-        Some(_) => number_of(matches, option),
-        None => Some(u64::MAX),
+        Some(_) => Some(Some(number_of(matches, option)?)),
+        None => Some(None),
     }
 }
 
@@ -105,8 +107,9 @@ pub(crate) fn connections_of(matches: &ArgMatches<'_>) -> Option<Connections>
 pub(crate) struct ClientBounds {
     pub(crate) patience: u64,
     pub(crate) ahead: Ahead,
-    pub(crate) client_permits: u64,
-    pub(crate) client_authorities: u64,
+    pub(crate) client_permits: Option<u64>,
+    pub(crate) client_authorities: Option<u64>,
+    pub(crate) client_entries: Option<u64>,
 }
 
 /// The bounds of each client from the options, if in range.
@@ -119,16 +122,8 @@ pub(crate) fn client_bounds_of(matches: &ArgMatches<'_>) -> Option<ClientBounds>
         ahead: ahead_of(matches)?,
         client_permits: bound_of(matches, CLIENT_PERMITS)?,
         client_authorities: bound_of(matches, CLIENT_AUTHORITIES)?,
+        client_entries: bound_of(matches, CLIENT_ENTRIES)?,
     })
-}
-
-fn seal_port_of(matches: &ArgMatches<'_>) -> Option<Option<u16>>
-    ensures { IfSome result (IsSealPortOf (found_of matches.now)) }
-{
-    match matches.get_str("seal-port") {
-        Some(_) => Some(Some(port_of(matches, SEAL_PORT)?)),
-        None => Some(None),
-    }
 }
 
 /// The options of a shift that are numbers.
@@ -156,11 +151,11 @@ pub(crate) fn shift_numbers_of(matches: &ArgMatches<'_>) -> Option<ShiftNumbers>
 /// The options of a server that are numbers.
 #[derive(Clone, Copy)]
 pub(crate) struct ServeNumbers {
-    pub(crate) seal_port: Option<u16>,
     pub(crate) workers: u64,
     pub(crate) connections: Connections,
     pub(crate) limits: Limits,
     pub(crate) times: TimeLimits,
+    pub(crate) texts: Option<u64>,
     pub(crate) clients: ClientBounds,
 }
 
@@ -170,11 +165,11 @@ pub(crate) fn serve_numbers_of(matches: &ArgMatches<'_>) -> Option<ServeNumbers>
     ensures words { IfSome result (AreServeNumbersOf (found_of matches.now)) }
 {
     Some(ServeNumbers {
-        seal_port: seal_port_of(matches)?,
         workers: number_of(matches, CLIENTS)?,
         connections: connections_of(matches)?,
         limits: limits_of(matches, Limits::usual().first_generation)?,
         times: times_of(matches)?,
+        texts: bound_of(matches, TEXTS)?,
         clients: client_bounds_of(matches)?,
     })
 }

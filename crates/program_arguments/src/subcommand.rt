@@ -2,7 +2,7 @@
 //! See docs/crawlgate.1.md.
 use client_connections::Connections;
 use gate_core::Limits;
-use http_client::{Reach, TimeLimits};
+use http_client::{AddressBlock, Reach, TimeLimits};
 use journal_files::SyncPolicy;
 use path_normal::Schemes;
 use robots_check::Detail;
@@ -59,6 +59,8 @@ pub struct ShiftOptions {
     pub times: TimeLimits,
     /// The addresses that fetches may reach.
     pub reach: Reach,
+    /// The addresses that they never reach.
+    pub not_to: Vec<AddressBlock>,
     /// The address of the program that opens TLS; without one only `http` is fetched.
     pub tls_by: Option<SocketAddr>,
     /// The contact that requests name after the agent.
@@ -87,12 +89,14 @@ pub enum ListenAddress {
     Socket(String),
 }
 
-/// The folder of a gate's journal, and when it is synced.
+/// The folder of a gate's journal, when it is synced, and its room.
 #[derive(Drop)]
 pub struct JournalOptions {
     /// The folder of its files.
     pub folder: String,
     pub sync: SyncPolicy,
+    /// How many octets its files may have together, if that is bounded.
+    pub room: Option<u64>,
 }
 
 /// Whom a site may write to about a crawl.
@@ -118,8 +122,8 @@ pub enum Ahead {
 #[derive(Drop)]
 pub struct ServeOptions {
     pub place: ListenAddress,
-    /// The loopback port for overseers, 0 for any free one; none without it.
-    pub seal_port: Option<u16>,
+    /// Where overseers connect, if they have a place of their own.
+    pub seal_place: Option<ListenAddress>,
     /// How many clients are served at once.
     pub workers: u64,
     /// How many connections are accepted in all.
@@ -130,18 +134,24 @@ pub struct ServeOptions {
     pub times: TimeLimits,
     /// The addresses that fetches may reach.
     pub reach: Reach,
+    /// The addresses that they never reach.
+    pub not_to: Vec<AddressBlock>,
     /// The address of the program that opens TLS; without one only `http` is fetched.
     pub tls_by: Option<SocketAddr>,
     /// The contact that requests name after the agent.
     pub contact: Contact,
+    /// How many octets of robots texts are kept together, if that is bounded.
+    pub texts: Option<u64>,
     /// The seconds to wait for a client between two line ends.
     pub patience: u64,
     /// How long the gate may fetch for lines sent ahead.
     pub ahead: Ahead,
-    /// How many permits a client may have out; the largest number for no limit.
-    pub client_permits: u64,
-    /// How many authorities a client may make known; the largest number for no limit.
-    pub client_authorities: u64,
+    /// How many permits a client may have out, if that is bounded.
+    pub client_permits: Option<u64>,
+    /// How many authorities a client may make known, if that is bounded.
+    pub client_authorities: Option<u64>,
+    /// How many entries of the history a client may make, if that is bounded.
+    pub client_entries: Option<u64>,
     /// The journal, if any: the gate's history is written there before it is told.
     pub journal: Option<JournalOptions>,
 }

@@ -24,6 +24,8 @@ pub(crate) enum WordForm {
     Flag,
     /// An option with a value.
     Text,
+    /// An option with a value that may be there again and again.
+    Texts,
     /// A value that is known by its place, and has to be there.
     Word,
     /// One or more of them.
@@ -36,7 +38,7 @@ impl WordForm {
         match self {
             WordForm::Flag => ArgAction::SetTrue,
             WordForm::Text | WordForm::Word => ArgAction::Set,
-            WordForm::Words => ArgAction::Append,
+            WordForm::Texts | WordForm::Words => ArgAction::Append,
         }
     }
 
@@ -116,6 +118,16 @@ pub(crate) const PUBLIC: WordArgument = WordArgument {
     needs: &[],
 };
 
+/// The addresses that fetches never reach.
+pub(crate) const NOT_TO: WordArgument = WordArgument {
+    name: "not-to",
+    form: WordForm::Texts,
+    values: &["ADDRESS/BITS"],
+    about: "Connects to no address that begins with so many bits of this one; may be there again and again",
+    conflicts: &[],
+    needs: &[],
+};
+
 /// The TLS program for https sites.
 pub(crate) const TLS_BY: WordArgument = WordArgument {
     name: "tls-by",
@@ -168,8 +180,18 @@ pub(crate) const SOCKET: WordArgument = WordArgument {
     form: WordForm::Text,
     values: &["PATH"],
     about: "Socket to listen at in place of a port, a file that its owner alone can open",
-    conflicts: &["port"],
+    conflicts: &["port", "seal-port"],
     needs: &[],
+};
+
+/// The socket at which a server listens for overseers.
+pub(crate) const SEAL_SOCKET: WordArgument = WordArgument {
+    name: "seal-socket",
+    form: WordForm::Text,
+    values: &["PATH"],
+    about: "Socket for SEAL, INFO, WHY, STATE and QUIT alone, beside the clients, a file that its owner alone can open",
+    conflicts: &["port", "seal-port"],
+    needs: &["socket"],
 };
 
 /// Whether a server's connections have no end.

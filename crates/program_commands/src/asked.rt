@@ -11,8 +11,10 @@ use crate::next::Next;
 use crate::records::lines_streams;
 use crate::replays::{export_streams, replay_streams};
 use crate::streams::closed_stream;
+use clap::Error;
 use clap::error::ErrorKind;
 use program_arguments::{Subcommand, options};
+use std::alloc::{AllocError, Global};
 use std::{env, io};
 
 /// Reads the program's arguments, and does what they ask for, except a shift or a server.
@@ -72,10 +74,53 @@ fn run_words(rt: &HostRuntime, words: &[&str]) -> io::Result<Next>
         Ok(subcommand) => Ok(run_subcommand(rt, subcommand)),
         Err(error) if error.kind() == ErrorKind::OutOfMemory => Ok(Next::Ends(Ending::NoMemory)),
         Err(error) => {
-            let _ = eprint!(rt; "{}", error.to_string(rt.alloc())?);
+            tell_refused(rt, words, error)?;
             Ok(Next::Ends(Ending::BadWords))
         }
     }
+}
+
+// Tells why words are refused. If the message would show control characters of them, they are told with
+// these escaped, since a terminal would obey them.
+fn tell_refused(rt: &HostRuntime, words: &[&str], error: Error) -> io::Result<()> {
+    let message = error.to_string(rt.alloc())?;
+    if !has_controls(message.as_str()) && !words.iter().any(|word| word.contains('\n')) {
+        let _ = eprint!(rt; "{message}");
+        return Ok(());
+    }
+    let mut escaped = Vec::new(rt.alloc());
+    for word in words {
+        escaped.push(escaped_of(rt.alloc(), word)?)?;
+    }
+    tell_escaped(rt, escaped.as_slice())
+}
+
+// Reads the words once more, as they are told.
+fn tell_escaped(rt: &HostRuntime, escaped: &[String]) -> io::Result<()> {
+    let mut words = Vec::new(rt.alloc());
+    for word in escaped {
+        words.push(word.as_str())?;
+    }
+    let _ = match options(rt.alloc(), words.as_slice()) {
+        Err(error) => eprint!(rt; "{}", error.to_string(rt.alloc())?),
+        Ok(_) => eprintln!(rt; "crawlgate: an argument has control characters"),
+    };
+    Ok(())
+}
+
+// Whether a message has control characters other than line feeds.
+fn has_controls(message: &str) -> bool {
+    message
+        .chars()
+        .any(|letter| letter.is_control() && letter != '\n')
+}
+
+fn escaped_of(alloc: Global, word: &str) -> Result<String, AllocError> {
+    let mut escaped = String::new(alloc);
+    for letter in word.escape_debug() {
+        escaped.push(letter)?;
+    }
+    Ok(escaped)
 }
 
 fn run_subcommand(rt: &HostRuntime, subcommand: Subcommand) -> Next

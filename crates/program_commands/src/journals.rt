@@ -9,6 +9,7 @@ use std::io;
 pub fn tell_bad_folder(rt: &HostRuntime, folder: &str, fault: FolderFault) -> Ending {
     match fault {
         FolderFault::OtherFiles => tell(rt, folder, "has files that are not a journal's"),
+        FolderFault::NotRegular(path) => tell(rt, path.as_str(), "is no regular file"),
         FolderFault::InUse => tell(rt, folder, "is in use by another process"),
         FolderFault::Device(cause) => tell_cause(rt, Some(cause)),
         FolderFault::NoMemory => Ending::NoMemory,
@@ -29,6 +30,15 @@ pub fn tell_short_journal(rt: &HostRuntime, file: &str, line: u64) -> Ending {
         "crawlgate: journal: {file:?} ends at line {line}, before its entries begin"
     );
     Ending::NoJournal
+}
+
+/// Prints after how many entries a journal's file begins whose earlier files are not in its folder. The program
+/// goes on.
+pub fn tell_begins_alone(rt: &HostRuntime, file: &str, entries: &str) {
+    // If standard error fails, the journal stays.
+    let _ = eprintln!(rt;
+        "crawlgate: journal: {file:?} begins at entry {entries}, the files before are not here"
+    );
 }
 
 /// Prints how many octets of a line torn by a crash are removed from a journal's file. The program goes on.
@@ -66,9 +76,20 @@ pub fn tell_unread_journal(rt: &HostRuntime, cause: Option<io::Error>) -> Ending
 pub fn tell_failed_journal(rt: &HostRuntime, folder: &str, fault: JournalFault) -> Ending {
     match fault {
         JournalFault::Device(cause) => tell_cause(rt, cause),
+        JournalFault::NoRoom(octets) => tell_no_room(rt, folder, octets),
         JournalFault::NoMemory => Ending::NoMemory,
         JournalFault::Elsewhere => tell(rt, folder, "does not go on where its files end"),
+        JournalFault::Gone => tell(rt, folder, "was removed or replaced"),
     }
+}
+
+// Prints that the disk has no room for a journal's next file.
+fn tell_no_room(rt: &HostRuntime, folder: &str, octets: u64) -> Ending {
+    // If standard error fails too, the status stays.
+    let _ = eprintln!(rt;
+        "crawlgate: journal: {folder:?} has no room for the next file, which needs {octets} octets"
+    );
+    Ending::NoJournal
 }
 
 // Prints what is wrong with a folder.

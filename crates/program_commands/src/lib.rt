@@ -23,8 +23,8 @@ pub use asked::run;
 pub use books::new_book;
 pub use ending::Ending;
 pub use journals::{
-    tell_bad_folder, tell_bad_journal, tell_clock_set_back, tell_failed_journal, tell_few_slots,
-    tell_full_journal, tell_short_journal, tell_torn_line, tell_unread_journal,
+    tell_bad_folder, tell_bad_journal, tell_begins_alone, tell_clock_set_back, tell_failed_journal,
+    tell_few_slots, tell_full_journal, tell_short_journal, tell_torn_line, tell_unread_journal,
 };
 pub use message::Message;
 pub use next::Next;
@@ -33,5 +33,5 @@ pub use server_line::ServerLine;
 pub use streams::Stream;
 pub use telling::{
     tell_bad_line, tell_ending, tell_failed, tell_full_log, tell_listening, tell_listening_at,
-    tell_no_place, tell_sealing, tell_served,
+    tell_no_place, tell_sealing, tell_sealing_at, tell_served,
 };

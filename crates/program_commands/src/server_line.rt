@@ -14,7 +14,9 @@ pub enum ServerLine<'a> {
     /// Clients may connect at the socket of this path.
     ListensAt { path: &'a str },
     /// Overseers may connect at this loopback port.
-    SealsAt { port: u16 },
+    Seals { port: u16 },
+    /// Overseers may connect at the socket of this path.
+    SealsAt { path: &'a str },
     /// The connections accepted, and the entries of the history.
     Served { connections: u64, events: u64 },
 }
@@ -31,11 +33,12 @@ impl<'a> ServerLine<'a> {
                 Piece::Text("\n"),
             ]),
             ServerLine::ListensAt { path } => Pieces::two_words("LISTEN", Piece::Text(path)),
-            ServerLine::SealsAt { port } => Pieces::of(&[
+            ServerLine::Seals { port } => Pieces::of(&[
                 Piece::Text("SEAL 127.0.0.1:"),
                 Piece::Number(u64::from(port)),
                 Piece::Text("\n"),
             ]),
+            ServerLine::SealsAt { path } => Pieces::two_words("SEAL", Piece::Text(path)),
             ServerLine::Served {
                 connections,
                 events,

@@ -42,7 +42,12 @@ pub fn tell_listening_at(rt: &HostRuntime, path: &str) -> Ending {
 
 /// Prints the port for overseers; returns the ending.
 pub fn tell_sealing(rt: &HostRuntime, port: u16) -> Ending {
-    tell(rt, ServerLine::SealsAt { port }.pieces(), Ending::Done)
+    tell(rt, ServerLine::Seals { port }.pieces(), Ending::Done)
+}
+
+/// Prints the path of the socket for overseers; returns the ending.
+pub fn tell_sealing_at(rt: &HostRuntime, path: &str) -> Ending {
+    tell(rt, ServerLine::SealsAt { path }.pieces(), Ending::Done)
 }
 
 /// Prints why nothing can listen at a place; the program ends.

@@ -1,7 +1,9 @@
 //! Tests beyond the clauses, which the built program can't show.
 
+mod blocks;
 mod interrupts;
 mod line;
+mod reaches;
 mod servers;
 mod tls_headers;
 mod unsent;

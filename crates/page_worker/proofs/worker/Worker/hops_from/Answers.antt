@@ -14,6 +14,7 @@ loop-hop-preserved g c =
       same = search rules;
       out = record { permits_are = omega arith; runs_are = omega arith; turns_are = omega arith; sealed_are = c.hop_at.ensures.out.sealed_are ∙ c.loop-hop.invariant.out.sealed_are };
       room = omega arith;
+      newcomers = omega arith;
     }
 
 pub returns-in-Stops-clause-tells : goal.returns-in-Stops-clause-tells

@@ -12,6 +12,7 @@ invariant-loop-hop g l = record {
   same : l.desk.no ≡ l.fn.desk.no;
   out : KeepsOut l.fn.desk l.desk;
   room : max_hops ≤ vec_capacity l.hops;
+  newcomers : l.newcomers ≤ l.fn.newcomers;
 }
 
 abbrev pub decreases-loop-hop : goal.decreases-loop-hop

@@ -1,0 +1,115 @@
+"""Cases of checks/serve on what a server and a client may keep: octets of a journal's files and of robots.txt files, entries."""
+import os
+import tempfile
+import time
+
+from journals import Recorded, audit, text_of
+from lib.cases import same
+from lib.server import Server, Session
+from lib.sites import open_site, response
+from sessions import sealed
+
+# a page of 4,000 octets, of a site that is not known: an ASK of it makes an entry that is as long
+UNKNOWN = f"ASK foobot http://a.example/{'x' * 4_000}"
+ROOM = 1 << 23
+
+
+def octets_of(folder):
+    return sum(os.stat(f"{folder}/{it}").st_size for it in os.listdir(folder))
+
+
+def filled(it):
+    """Asks until the journal has no more room, and returns how often."""
+    count = 0
+    while True:
+        replies = set(it.say_all([UNKNOWN] * 50))
+        if "ERR log" in replies:
+            assert replies <= {"ERR log", "NO a.example unknown"}, replies
+            return count
+        same(replies, {"NO a.example unknown"})
+        count += 50
+
+
+def journal_with_room():
+    """Past its room nothing is entered that is not out already, and sessions go on; once files were moved away there is room
+    again, in the same session."""
+    site = open_site({"/robots.txt": response(404)})
+    a, x = site.authority, site.url("/x")
+    words = ["--journal-room", str(ROOM), "--journal-sync", "never"]
+    with tempfile.TemporaryDirectory() as folder, Recorded(folder, *words) as server, Session(server) as it, Session(server) as other:
+        same(it.say(f"REFRESH {a}"), f"TAKEN {a} open")
+        same(it.say_all([f"ASK foobot {x}"] * 2), ["PERMIT 65536", "PERMIT 65537"])
+        same(set(it.say_all([UNKNOWN] * 1_000)), {"NO a.example unknown"})
+        assert len(sealed(it)) > 1_000
+        assert 500 < filled(it) < 1_100
+        assert ROOM - 500_000 < octets_of(server.folder) < ROOM + 500_000, octets_of(server.folder)
+        same([other.say(line) for line in (UNKNOWN, f"ASK foobot {x}", f"REFRESH {a}", "SEAL")], ["ERR log"] * 3 + ["ERR memory"])
+        it.send(f"FETCH foobot {x}\n".encode())
+        same(it.lines(3), ["HOP 1 ERR log", "BODY 0", ""])
+        same(it.say(f"STATE {a}"), f"STATE {a} open idle")
+        same(it.say_all([f"START 65536 foobot {x}", "DONE 65536", "BACK 65537"]), ["GO 65536 open", "DONE 65536", "BACK 65537"])
+        first, *left = sorted(name for name in os.listdir(server.folder) if not name.startswith("."))
+        os.rename(f"{server.folder}/{first}", f"{folder}/{first}")
+        deadline = time.monotonic() + 5
+        while other.say(f"ASK foobot {x}") == "ERR log":
+            assert time.monotonic() < deadline
+            time.sleep(0.1)
+        same(it.say("STATE a.example"), "STATE a.example unknown idle")
+        server.stop()
+        with open(f"{folder}/{first}") as file:
+            whole = file.read() + text_of(server.folder)
+        same(len(left), 1)
+        assert audit(whole).startswith("OK events "), audit(whole)
+
+
+def texts_with_room():
+    """A robots.txt for which there is no room closes its site; one that stands already takes none, and a seal gives back the
+    room of those that stand no more."""
+    rules = b"User-agent: *\nDisallow: /x\n" + b"#" * 300_000
+    sites = [open_site({"/robots.txt": response(200, rules + b"#" * at)}) for at in range(3)]
+    one, two, three = (it.authority for it in sites)
+    with Server("--texts", "700000") as server, Session(server) as it:
+        same(it.say(f"REFRESH {one}"), f"TAKEN {one} rules")
+        # (the same text is in memory once)
+        same(it.say_all([f"REFRESH {one}"] * 5), [f"TAKEN {one} rules"] * 5)
+        same(it.say(f"REFRESH {two}"), f"TAKEN {two} rules")
+        same(it.say(f"REFRESH {three}"), f"TAKEN {three} closed")
+        same(it.say(f"ASK foobot {sites[2].url('/y')}"), f"NO {three} closed")
+        same(it.say(f"ASK foobot {sites[1].url('/y')}").split(" ")[0], "PERMIT")
+        # the first site's text becomes short, so behind a seal there is room for the third one's
+        sites[0].pages["/robots.txt"] = response(200, b"User-agent: *\nDisallow: /x\n")
+        same(it.say(f"REFRESH {one}"), f"TAKEN {one} rules")
+        same(it.say(f"REFRESH {three}"), f"TAKEN {three} closed")
+        sealed(it)
+        deadline = time.monotonic() + 5
+        while it.say(f"REFRESH {three}") == f"TAKEN {three} closed":
+            assert time.monotonic() < deadline
+            time.sleep(0.1)
+        same(it.say(f"STATE {three}"), f"STATE {three} rules idle")
+
+
+def client_with_entries():
+    """A client that made its entries is refused further ones, but goes on with what it has out; the next one has as many, and
+    others have theirs meanwhile."""
+    site = open_site({"/robots.txt": response(404)})
+    a, x = site.authority, site.url("/x")
+    with Server("--client-entries", "4") as server, Session(server) as it, Session(server) as other:
+        same(it.say(f"REFRESH {a}"), f"TAKEN {a} open")
+        same(it.say_all([f"ASK foobot {x}"] * 3), ["PERMIT 65536", "PERMIT 65537", "ERR log"])
+        same([it.say(line) for line in (UNKNOWN, f"REFRESH {a}")], ["ERR log"] * 2)
+        it.send(f"FETCH foobot {x}\n".encode())
+        same(it.lines(3), ["HOP 1 ERR log", "BODY 0", ""])
+        same(it.say_all([f"START 65536 foobot {x}", "DONE 65536", "BACK 65537"]), ["GO 65536 open", "DONE 65536", "BACK 65537"])
+        same(it.say(f"STATE {a}"), f"STATE {a} open idle")
+        # (a seal makes no room for who has had it)
+        assert len(sealed(other)) > 4
+        same(it.say(f"ASK foobot {x}"), "ERR log")
+        same(set(other.say_all([UNKNOWN] * 4)), {"NO a.example unknown"})
+        same(other.say(UNKNOWN), "ERR log")
+        same(it.say("QUIT"), "BYE")
+        with Session(server) as third:
+            same(set(third.say_all([UNKNOWN] * 4)), {"NO a.example unknown"})
+            same(third.say(UNKNOWN), "ERR log")
+
+
+CASES = [journal_with_room, texts_with_room, client_with_entries]

@@ -1,0 +1,48 @@
+//! One request and its response through the TLS program.
+//! RFC 9112, sections 8 and 9.8.
+ghost use Rattle.std.specs.Prelude.{◌≡◌, None};
+ghost use Rattle.http_wire.specs.Response.{Tells};
+ghost use Rattle.http_client.specs.Agent.{IsAgent};
+ghost use Rattle.http_client.specs.Cut.{IsWholeBefore, unless_ended};
+
+use crate::heard::{Heard, Unseen};
+use crate::http_exchange::exchange_behind;
+use counted_io::{Counted, Sink};
+use http_wire::{HttpReply, WireFault};
+use path_normal::PageUrl;
+use std::alloc::Global;
+use std::io::Read;
+
+/// `exchange_behind` over a connection to the TLS program, which is given back.
+///
+/// Where TLS was cut that connection ends as if it had been ended, so a response which only that end would
+/// end is `EarlyEnd`: one with neither a length nor chunks, unless its body is over the limit.
+pub(crate) fn exchange_through<S: Read, W: Sink, U: Unseen>(
+    alloc: Global,
+    stream: S,
+    writer: &mut W,
+    header: &[u8],
+    url: &PageUrl,
+    agent: &[u8],
+    limit: usize,
+) -> (Result<HttpReply, WireFault>, Heard<S, U>)
+    requires { IsAgent agent.now }
+    ensures tells { Tells None limit result.0 }
+    ensures whole { IsWholeBefore U.octets (S.remaining stream) limit result.0 }
+{
+    let mut reader = Counted::new(Heard::new(stream));
+    let given = exchange_behind(alloc, &mut reader, writer, header, url, agent, limit);
+    let heard: Heard<S, U> = reader.into_inner();
+    (unless_ended(given, heard.ended), heard)
+}
+
+// The result of an exchange, by whether the connection's end was read.
+fn unless_ended(given: Result<HttpReply, WireFault>, ended: bool) -> Result<HttpReply, WireFault>
+    ensures { result ≡ unless_ended ended given }
+{
+    if ended {
+        Err(WireFault::EarlyEnd)
+    } else {
+        given
+    }
+}
