@@ -5,7 +5,8 @@ import re
 import sys
 
 sys.dont_write_bytecode = True
-CLAUSE = re.compile(r"\s*(?:requires|ensures)\*?(?:\s+(\w+))?\s*\{")
+CLAUSE = re.compile(r"\s*((?:requires|ensures)\*?)(?:\s+(\w+))?\s*\{")
+BRACKET = re.compile(r"[()\[\]{}]")
 ITEM = re.compile(r"(pub\s+|pub\([a-z ]+\)\s+)?(final\s+)?(fn|struct|enum|trait|const|type|mod|use|impl|ghost)\b")
 TYPES = ("struct", "enum", "trait", "type")
 
@@ -30,18 +31,20 @@ def without_comments(text):
 def closing(text, at):
     """Returns the place behind the bracket that closes the one at a place."""
     depth = 0
-    for place in range(at, len(text)):
-        depth += {"(": 1, "[": 1, "{": 1, ")": -1, "]": -1, "}": -1}.get(text[place], 0)
+    for found in BRACKET.finditer(text, at):
+        depth += 1 if found[0] in "([{" else -1
         if depth == 0:
-            return place + 1
+            return found.end()
     raise ValueError(f"a bracket is never closed: {text[at : at + 40]!r}")
 
 
 def until(text, at, ends):
     """Returns the place of the first of some octets that stands in no bracket, from a place on."""
-    while at < len(text) and text[at] not in ends:
-        at = closing(text, at) if text[at] in "([{" else at + 1
-    return at
+    mark = re.compile(rf"[(\[{{{re.escape(ends)}]")
+    found = mark.search(text, at)
+    while found and found[0] not in ends:
+        found = mark.search(text, closing(text, found.start()))
+    return found.start() if found else len(text)
 
 
 def behind_generics(text):
@@ -80,14 +83,19 @@ def name_of(head):
 
 
 class Item:
-    """An item: what it is, its head, what it derives, the texts of its clauses, and what stands between its braces."""
+    """An item: what it is, its head, what it derives, its clauses, and what stands between its braces. `clauses` has the texts
+    of what it ensures by their labels; `contract` has all, in order: `requires` or `ensures`, label and text."""
 
     def __init__(self, kind, is_public, is_final):
         self.kind, self.is_public, self.is_final = kind, is_public, is_final
-        self.head, self.derives, self.clauses, self.inner = "", [], {}, None
+        self.head, self.derives, self.clauses, self.contract, self.inner = "", [], {}, [], None
+
+        self.parts = None
 
     def items(self):
-        return list(self.inner.items()) if self.inner else []
+        if self.parts is None:
+            self.parts = list(self.inner.items()) if self.inner else []
+        return self.parts
 
 
 class Text:
@@ -123,7 +131,8 @@ class Text:
         end = found.end()
         if item.kind in ("use", "ghost", "const", "type", "mod"):
             stop = until(self.code, end, ";")
-            item.head = in_one_line(self.plain[end:stop])
+            text = self.plain[end:stop]
+            item.head = " ".join(text.split()) if item.kind == "ghost" else in_one_line(text)
             return item, stop + 1
         begin = end
         while self.code[end] not in ";{" and not CLAUSE.match(self.code, end):
@@ -141,8 +150,10 @@ class Text:
         clause = CLAUSE.match(self.code, at)
         while clause:
             at = closing(self.code, clause.end() - 1)
-            if clause[0].split()[0].startswith("ensures"):
-                item.clauses[clause[1] or "-"] = self.plain[clause.end() : at - 1]
+            text = self.plain[clause.end() : at - 1]
+            item.contract.append((clause[1], clause[2] or "-", text))
+            if clause[1].startswith("ensures"):
+                item.clauses[clause[2] or "-"] = text
             clause = CLAUSE.match(self.code, at)
         return at
 
@@ -178,6 +189,11 @@ class Crate:
 
     def calls(self):
         """Returns the lines of all that is offered, and of each type that stands in such a line."""
+        return sorted(self.reached()[1], key=order)
+
+    def reached(self):
+        """Returns what is offered and each type that stands in a line of it, by file and name, each with the path to it; and
+        the lines."""
         types = {}
         for file, items in self.files.items():
             types |= {name_of(it.head): file for it in items if it.kind in TYPES and it.is_public}
@@ -189,7 +205,7 @@ class Crate:
             found |= lines
             for name in {word for line in lines for word in re.findall(r"\w+", line)} & set(types):
                 offered.setdefault((types[name], name), "")
-        return sorted(found, key=order)
+        return offered, found
 
     def reach(self, key, line):
         """Returns what is said of a type that nobody outside can name."""
