@@ -1,6 +1,7 @@
 """The built program as a line server, and its clients' sessions."""
 import contextlib
 import re
+import resource
 import select
 import socket
 import subprocess
@@ -17,12 +18,14 @@ SECONDS = 30
 
 class Server:
     """The built program as a line server, from its first line on, at a port or at a socket. It can be started without a
-    standard stream, as `>&-`; then nothing is read of it, and the port must be told."""
+    standard stream, as `>&-`; then nothing is read of it, and the port must be told. Its address space can be limited."""
 
     program = BUILT
 
-    def __init__(self, *words, without="", port=0, path=None):
+    def __init__(self, *words, without="", port=0, path=None, octets=resource.RLIM_INFINITY):
         streams = {"stdin": subprocess.DEVNULL, "stdout": subprocess.PIPE, "stderr": subprocess.PIPE}
+        if octets != resource.RLIM_INFINITY:
+            streams["preexec_fn"] = lambda: resource.setrlimit(resource.RLIMIT_AS, (octets, octets))
         place = ["--socket", path] if path else ["--port", str(port)]
         words = [self.program, "serve", *place, *words]
         self.path = path

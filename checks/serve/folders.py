@@ -173,7 +173,17 @@ def no_room_for_the_next_file():
         same(on_a_small_disk(folder, {FIRST: first}, 16), (3, told))
 
 
+def a_folder_whose_name_begins_with_a_sign():
+    """A plus sign is one of a number alone: a folder's name may begin with it."""
+    with tempfile.TemporaryDirectory() as folder:
+        for words in (["--journal", "+j"], ["--journal=+j"]):
+            ran = subprocess.run([Server.program, "shift", *words], cwd=folder, input=b"", capture_output=True, timeout=SECONDS)
+            same((ran.returncode, ran.stderr), (0, b""))
+        same(os.listdir(folder), ["+j"])
+
+
 CASES = [
+    a_folder_whose_name_begins_with_a_sign,
     a_folder_is_its_owners,
     links_in_a_folder,
     pipes_in_a_folder,

@@ -34,9 +34,9 @@ def starts_of(text):
 class Recorded(Server):
     """A server with a journal in a folder that is not there yet."""
 
-    def __init__(self, folder, *words):
+    def __init__(self, folder, *words, **how):
         self.folder = f"{folder}/journal"
-        super().__init__("--journal", self.folder, *words)
+        super().__init__("--journal", self.folder, *words, **how)
 
     def text(self):
         return text_of(self.folder)

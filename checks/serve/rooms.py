@@ -1,17 +1,20 @@
 """Cases of checks/serve on what a server and a client may keep: octets of a journal's files and of robots.txt files, entries."""
 import os
+import re
 import tempfile
 import time
 
 from journals import Recorded, audit, text_of
 from lib.cases import same
 from lib.server import Server, Session
-from lib.sites import open_site, response
+from lib.sites import Requests, open_site, response
 from sessions import sealed
 
 # a page of 4,000 octets, of a site that is not known: an ASK of it makes an entry that is as long
 UNKNOWN = f"ASK foobot http://a.example/{'x' * 4_000}"
 ROOM = 1 << 23
+# what a server may have of memory where there is little
+OCTETS = 100_000_000
 
 
 def octets_of(folder):
@@ -112,4 +115,61 @@ def client_with_entries():
             same(third.say(UNKNOWN), "ERR log")
 
 
-CASES = [journal_with_room, texts_with_room, client_with_entries]
+class LongRules(Requests):
+    """A site of each host of 127.0.0.0/8 at one port, with a long robots.txt of its own."""
+
+    def __init__(self):
+        super().__init__("0.0.0.0")
+        self.port = self.authority.split(":")[1]
+
+    def authorities(self, count):
+        return [f"127.0.1.{at}:{self.port}" for at in range(1, count + 1)]
+
+    def answer(self, peer, head, target):
+        host = re.search(rb"Host: (\S+)", head)[1]
+        lines = [b"disallow: /no/%s/%d" % (host, at) for at in range(15_000)]
+        peer.sendall(response(200, b"\n".join([b"user-agent: *", *lines])[:500_000]))
+
+
+def drop_lines(it, count):
+    """Reads so many lines, which are long and the last that come, and keeps none."""
+    piece, it.unread = it.unread, b""
+    while piece.count(b"\n") < count:
+        count -= piece.count(b"\n")
+        piece = it.peer.recv(1 << 20)
+        assert piece
+
+
+def little_memory(*words):
+    """A robots.txt for which there is no memory closes its site; the others' sites, what is out, seals, and with a journal
+    its files, go on."""
+    sites = LongRules()
+    first, *more = sites.authorities(160)
+    with tempfile.TemporaryDirectory() as folder, Recorded(folder, *words, octets=OCTETS) as server, Session(server) as it:
+        same(it.say(f"REFRESH {first}"), f"TAKEN {first} rules")
+        same(it.say(f"ASK foobot http://{first}/x"), "PERMIT 65536")
+        taken = [it.say(f"REFRESH {site}").split(" ")[2] for site in more]
+        assert taken.count("rules") > 20 and taken.count("closed") > 20, taken
+        for _ in range(2):
+            sealing = it.say("SEAL")
+            if sealing != "ERR memory":
+                drop_lines(it, int(sealing.split(" ")[1]))
+            same(it.say(f"REFRESH {more[taken.index('closed')]}").split(" ")[0], "TAKEN")
+        same(it.say_all([f"START 65536 foobot http://{first}/x", "DONE 65536"]), ["GO 65536 norule", "DONE 65536"])
+        with Session(server) as other:
+            same(other.say(f"ASK foobot http://{more[0]}/x").split(" ")[0], "PERMIT")
+        server.stop()
+        assert audit(server.text()).startswith("OK events "), audit(server.text())
+
+
+def little_memory_with_a_journal():
+    little_memory()
+
+
+def little_memory_with_a_journal_of_a_second():
+    little_memory("--journal-sync", "second")
+
+
+CASES = [
+    journal_with_room, texts_with_room, client_with_entries, little_memory_with_a_journal, little_memory_with_a_journal_of_a_second,
+]

@@ -9,15 +9,20 @@ use Rattle.http_wire.specs.Response.{Tells}
 use Rattle.path_normal.specs.declared.schemes.Schemes.{Schemes}
 use Rattle.path_normal.specs.declared.schemes.Schemes.TheVariants.{Http, HttpAndHttps}
 use Rattle.std.specs.declared.net.socket_addr.SocketAddr.{SocketAddr}
+use Rattle.http_client.specs.declared.address_block.AddressBlock.{AddressBlock}
+use Rattle.http_client.specs.declared.reach.Reach.{Reach}
 use Rattle.http_client.specs.declared.time_limits.TimeLimits.{TimeLimits}
 
--- a fetcher: its agent for robots.txt files, the comment after agents of pages, if any, its time limits, and the
--- schemes of its pages
+-- a fetcher: its agent for robots.txt files, the comment after agents of pages, if any, its time limits, its reach, the
+-- blocks that it doesn't connect to, the schemes of its pages, and the most octets of robots texts that it keeps
 pub record TcpView : Type 0 where
   pub agent : List ℕ
   pub contact : Option (List ℕ)
   pub limits : TimeLimits
+  pub reach : Reach
+  pub not_to : List AddressBlock
   pub schemes : Schemes
+  pub texts : ℕ
 
 -- an agent and its comment, if any. RFC 9110, sections 5.6.5 and 10.1.5
 abbrev pub agent_with : List ℕ → Option (List ℕ) → List ℕ

@@ -1,6 +1,6 @@
 //! Pages and robots.txt files fetched over TCP, each under its agent.
 //! RFC 9309, section 2.2.1; RFC 9110, section 10.1.5.
-ghost use Rattle.std.specs.Prelude.{◌≡◌, IfOk, IfSome, None, Some};
+ghost use Rattle.std.specs.Prelude.{◌≡◌, [], IfOk, IfSome, None, Some};
 ghost use Rattle.path_normal.specs.declared.schemes.Schemes.TheVariants.{Http};
 ghost use Rattle.http_wire.specs.Response.{Tells};
 ghost use Rattle.http_client.specs.Agent.{IsAgent};
@@ -25,7 +25,8 @@ const ROBOTS_LIMIT: usize = MAX_TEXT + 1;
 /// Fetches pages under crawlers' tokens, and robots.txt files under its own agent.
 ///
 /// A clause sees it as that agent (the value of User-Agent), the comment after a crawler's token, its time
-/// limits, and the schemes of its pages.
+/// limits, its reach, the blocks that it avoids, the schemes of its pages, and the most octets of robots
+/// texts.
 #[derive(Drop)]
 pub struct TcpFetcher<R: Net<Stream = TcpStream> + time::Clock> {
     client: TcpClient<R>,
@@ -44,8 +45,11 @@ impl<R: Net<Stream = TcpStream> + time::Clock> Model for TcpFetcher<R> {
     ghost view = { λ fetcher. record {
       agent = fetcher.agent.items;
       contact = contact_of fetcher.contact;
-      limits = fetcher.client;
+      limits = fetcher.client.limits;
+      reach = fetcher.client.reach;
+      not_to = fetcher.client.not_to;
       schemes = fetcher.schemes;
+      texts = fetcher.texts;
     } };
 
     ghost invariant = { λ fetcher. IsAgent fetcher.agent.items × IsContact (contact_of fetcher.contact) };
@@ -98,6 +102,8 @@ impl<R: Net<Stream = TcpStream> + time::Clock> TcpFetcher<R> {
         ensures limits { IfOk result (λ fetcher. fetcher.limits ≡ limits) }
         ensures schemes { IfOk result (λ fetcher. fetcher.schemes ≡ schemes_by tls_by) }
         ensures contact { IfOk result (λ fetcher. fetcher.contact ≡ None) }
+        ensures reach { IfOk result (λ fetcher. fetcher.reach ≡ reach) }
+        ensures not_to { IfOk result (λ fetcher. fetcher.not_to ≡ []) }
     {
         Ok(TcpFetcher {
             agent: Vec::from_slice(alloc, agent)?,
@@ -118,6 +124,9 @@ impl<R: Net<Stream = TcpStream> + time::Clock> TcpFetcher<R> {
         ensures contact { IfOk result (λ fetcher. fetcher.contact ≡ Some contact.now) }
         ensures limits { IfOk result (λ fetcher. fetcher.limits ≡ self.limits) }
         ensures schemes { IfOk result (λ fetcher. fetcher.schemes ≡ self.schemes) }
+        ensures reach { IfOk result (λ fetcher. fetcher.reach ≡ self.reach) }
+        ensures not_to { IfOk result (λ fetcher. fetcher.not_to ≡ self.not_to) }
+        ensures texts { IfOk result (λ fetcher. fetcher.texts ≡ self.texts) }
     {
         let alloc = self.allocator();
         let whole = with_comment(alloc, self.agent.as_slice(), contact)?;
@@ -143,7 +152,13 @@ impl<R: Net<Stream = TcpStream> + time::Clock> TcpFetcher<R> {
     pub fn avoiding(self, not_to: Vec<AddressBlock>) -> TcpFetcher<R>
     where
         R: Drop,
-        ensures { result ≡ self }
+        ensures not_to { result.not_to ≡ not_to.items }
+        ensures agent { result.agent ≡ self.agent }
+        ensures contact { result.contact ≡ self.contact }
+        ensures limits { result.limits ≡ self.limits }
+        ensures reach { result.reach ≡ self.reach }
+        ensures schemes { result.schemes ≡ self.schemes }
+        ensures texts { result.texts ≡ self.texts }
     {
         let TcpFetcher {
             client,
@@ -165,7 +180,13 @@ impl<R: Net<Stream = TcpStream> + time::Clock> TcpFetcher<R> {
     pub fn keeping(self, most: u64) -> TcpFetcher<R>
     where
         R: Drop,
-        ensures { result ≡ self }
+        ensures texts { result.texts ≡ most }
+        ensures agent { result.agent ≡ self.agent }
+        ensures contact { result.contact ≡ self.contact }
+        ensures limits { result.limits ≡ self.limits }
+        ensures reach { result.reach ≡ self.reach }
+        ensures not_to { result.not_to ≡ self.not_to }
+        ensures schemes { result.schemes ≡ self.schemes }
     {
         let TcpFetcher {
             client,

@@ -5,6 +5,8 @@ use Rattle.gate_history.specs.declared.entry.Entry.{Entry}
 use Rattle.gate_history.specs.Segment.{Sealed}
 use Rattle.gate_core.specs.declared.refusal.NoMemory.{NoMemory}
 use Rattle.history_text.specs.SpellBase.{spell_segment}
+use Rattle.journal_files.specs.declared.chronicle.Rest.{Rest}
+use Rattle.journal_files.specs.declared.chronicle.Rest.TheVariants.{Nothing, Part, Last}
 use Rattle.journal_files.specs.declared.position.JournalPosition.{JournalPosition}
 
 -- how many entries of the last file are before this place
@@ -31,10 +33,27 @@ pub record Follows (place : JournalPosition) (s : Sealed) (text : List ℕ) : Ty
   pub place_is : IsPlaceIn place s
   pub whole : spell_segment (spelled_of place s) ++ text ≡ spell_segment s
 
+-- the text is that of entries behind the place, up to the next place; where there is none, none are left
+pub record SpellsTo (place : JournalPosition) (s : Sealed) (text : List ℕ) (next : JournalPosition) : Type 0 where
+  pub next_is : IsPlaceIn next s
+  pub text_is : Follows place (spelled_of next s) text
+  pub goes : next ≡ place → spelled_count place ≡ length s.entries
+
+-- the text is that of some of the entries that a seal handed out
+abbrev pub PartOf : Result Sealed NoMemory → JournalPosition → List ℕ → JournalPosition → Type 0
+PartOf (Ok s) place text next = SpellsTo place s text next
+PartOf (Err refusal) place text next = ⊥
+
 -- the text ends what a seal handed out; there is none if nothing was sealed
 abbrev pub EndsFile : Result Sealed NoMemory → JournalPosition → List ℕ → Type 0
 EndsFile (Ok s) place text = Follows place s text
 EndsFile (Err refusal) place text = ⊥
+
+-- what a file lacks of a segment with entries: a part of them, or all up to its end
+abbrev pub IsRestIn : JournalPosition → Sealed → Rest → Type 0
+IsRestIn place s (Nothing memory) = ⊥
+IsRestIn place s (Part text next) = SpellsTo place s text.items next
+IsRestIn place s (Last text) = Follows place s text.items
 
 -- a seal handed out no entry
 abbrev pub HandsNothing : Result Sealed NoMemory → Type 0

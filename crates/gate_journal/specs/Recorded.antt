@@ -8,7 +8,7 @@ use Rattle.gate_lock.specs.Desks.{IsGateOf}
 use Rattle.history_text.specs.Exports.{present_segment}
 use Rattle.history_text.specs.SpellBase.{spell_segment}
 use Rattle.journal_files.specs.declared.position.JournalPosition.{JournalPosition}
-use Rattle.gate_journal.specs.Follows.{Follows}
+use Rattle.gate_journal.specs.Follows.{SpellsTo}
 
 -- where the text of a gate's whole history ends
 abbrev pub place_of : Gate → JournalPosition
@@ -18,9 +18,9 @@ place_of g = record { begun = g.base.entries; spelled = entry_count (history g) 
 abbrev pub OfSome : Limits → (Gate → Type 0) → Type 0
 OfSome limits P = (g : Gate) × (IsGateOf limits 0 g × P g)
 
--- the text has what the files lack of the gate, up to the place
+-- the text is that of entries of the gate which the files lack, up to the place
 abbrev pub SpellsUpTo : JournalPosition → List ℕ → JournalPosition → Gate → Type 0
-SpellsUpTo old text next g = Follows old (present_segment g) text × (next ≡ place_of g)
+SpellsUpTo old text next g = SpellsTo old (present_segment g) text next
 
 -- the text is the gate's base and its entries since
 abbrev pub BeginsWith : List ℕ → JournalPosition → Gate → Type 0

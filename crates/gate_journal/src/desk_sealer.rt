@@ -8,7 +8,7 @@ use counted_io::Output;
 use gate_core::NoMemory;
 use gate_history::Segment;
 use gate_lock::{Desk, DesksFull, Gate, GateLock, Receipts};
-use journal_files::{JournalFault, JournalPosition, Sealer};
+use journal_files::{JournalFault, JournalPosition, Rest, Sealer};
 use std::alloc::Global;
 use std::sync::Wait;
 
@@ -44,25 +44,29 @@ impl<'a, 'g, G: Gate, R: Wait> DeskSealer<'a, 'g, G, R> {
 
 impl<'a, 'g, G: Gate, R: Wait> Sealer for DeskSealer<'a, 'g, G, R> {
     ghost use Rattle.gate_lock.specs.Steps.{DeskSeals, Somewhere};
-    ghost use Rattle.gate_journal.specs.Follows.{EndsFile};
+    ghost use Rattle.gate_journal.specs.Follows.{EndsFile, HandsNothing, PartOf};
 
     type Sealed = Result<Segment, NoMemory>;
 
     ghost seals = { λ s sealed s2. Somewhere s.desk
         (λ old new. DeskSeals s.desk old sealed new s2.desk) };
 
+    ghost parts = { PartOf };
+
     ghost ends = { EndsFile };
+
+    ghost nothing = { HandsNothing };
 
     fn seal(&mut self) -> Result<Segment, NoMemory> {
         self.desk.seal(self.rt)
     }
 
     fn rest(
-        alloc: Global,
         sealed: &Result<Segment, NoMemory>,
         output: &mut Output,
         place: JournalPosition,
-    ) -> Option<Result<Vec<u8>, JournalFault>> {
-        rest_of(alloc, sealed, output, place)
+        room: Vec<u8>,
+    ) -> Result<Rest, JournalFault> {
+        rest_of(sealed, output, place, room)
     }
 }

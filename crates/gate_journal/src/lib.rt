@@ -2,6 +2,7 @@
 #![tactic(auto)]
 
 mod desk_sealer;
+mod pieces;
 mod recording;
 mod spelling;
 

@@ -1,14 +1,17 @@
 //! A locked gate, for a journal.
-//! The lock is held while entries are formatted, not while they are written.
-ghost use Rattle.std.specs.Prelude.{◌≡◌, [], IfOk};
+//! The lock is held while entries are formatted, not while they are written; and while the text that begins a
+//! file is written, which is not held in memory, but not until a crash keeps it.
+ghost use Rattle.std.specs.Prelude.{◌≡◌, []};
 ghost use Rattle.gate_journal.specs.Recorded.{BeginsWith, OfSome, SpellsUpTo, place_of};
 
-use crate::spelling::{follow, segment_text};
-use counted_io::Output;
+use crate::pieces::{ROOM, next_piece};
+use counted_io::{Counted, DeviceFault, Output, Sink};
 use gate_core::Book;
 use gate_lock::{Gate, GateLock};
+use history_text::export;
 use journal_files::{Chronicle, JournalFault, JournalPosition, Spelled};
-use std::alloc::Global;
+use std::alloc::{AllocError, Global};
+use std::io;
 use std::sync::Wait;
 
 /// A gate, and the runtime that waits for its lock.
@@ -29,18 +32,35 @@ impl<'a, G: Gate, R: Wait> Chronicle for Recording<'a, G, R> {
         held.book().entry_count()
     }
 
-    fn follow(&self, output: &mut Output, place: JournalPosition) -> Result<Spelled, JournalFault> {
-        let held = self.gate.lend(self.rt);
-        let book = held.book();
-        let text = follow(self.alloc, book.base(), book.history(), output, place)?;
-        Ok((text, place_of(book)))
+    fn room(&self) -> Result<Vec<u8>, AllocError> {
+        let mut room = Vec::new(self.alloc);
+        room.reserve(ROOM)?;
+        Ok(room)
     }
 
-    fn begin(&self, _output: &mut Output) -> Result<Spelled, JournalFault> {
+    fn follow(
+        &self,
+        output: &mut Output,
+        place: JournalPosition,
+        room: Vec<u8>,
+    ) -> Result<Spelled, JournalFault> {
         let held = self.gate.lend(self.rt);
         let book = held.book();
-        let text = segment_text(self.alloc, book)?;
-        Ok((text, place_of(book)))
+        next_piece(book.base(), book.history(), output, place, room)
+    }
+
+    fn begin<W: Sink>(
+        &self,
+        output: &mut Output,
+        sink: &mut W,
+    ) -> Result<JournalPosition, DeviceFault> {
+        let held = self.gate.lend(self.rt);
+        let book = held.book();
+        let told = export(book, output, sink);
+        // (nothing is pending behind an export: this says so)
+        let _ = output.flush(&mut Counted::new(io::sink()));
+        told?;
+        Ok(place_of(book))
     }
 
     /// Half of the history's limit is used.

@@ -1,80 +1,91 @@
 //! Parts of a history as texts in memory.
 //! See docs/FORMATS.md.
-ghost use Rattle.std.specs.Prelude.{◌≡◌, [], None, IfOk, IfSome, OnOk};
+ghost use Rattle.std.specs.Prelude.{◌≡◌, [], IfOk, IfSome, OnOk};
 ghost use Rattle.std.specs.Io.KnownBytes.{Appends};
 ghost use Rattle.history_text.specs.declared.version.Version.TheVariants.{Two};
-ghost use Rattle.history_text.specs.Exports.{present_segment};
 ghost use Rattle.history_text.specs.Spell.{entry_lines};
-ghost use Rattle.history_text.specs.SpellBase.{spell_segment};
-ghost use Rattle.gate_journal.specs.Follows.{AreBehind, EndsFile, Follows, HandsNothing};
+ghost use Rattle.journal_files.specs.Writing.{IsRest};
+ghost use Rattle.gate_journal.specs.Follows.{AreBehind, EndsFile, Follows, HandsNothing, IsRestIn, PartOf};
 
+use crate::pieces::next_piece;
 use counted_io::{Counted, DeviceFault, Output, Sink};
-use gate_core::{Book, NoMemory};
+use gate_core::NoMemory;
 use gate_history::{Base, Entry, Segment};
-use history_text::{export, push_entries};
-use journal_files::{JournalFault, JournalPosition};
-use std::alloc::Global;
+use history_text::push_entries;
+use journal_files::{JournalFault, JournalPosition, Rest};
 
-/// The text that ends a file after a seal: the lines of the segment's entries that the file lacks, if any
-/// were handed out. It fails if memory runs out, or if the segment does not continue there.
+/// What a journal's file lacks of what a seal handed out, in the memory of `room`: no more than a piece. It
+/// fails if the room is too small and memory runs out, or if the segment does not continue at the place.
 pub fn rest_of(
-    alloc: Global,
     sealed: &Result<Segment, NoMemory>,
     output: &mut Output,
     place: JournalPosition,
-) -> Option<Result<Vec<u8>, JournalFault>>
-    requires { output.old ≡ [] }
-    ensures ends { IfSome result (λ rest. IfOk rest (λ text.
-        EndsFile sealed.now place text.items)) }
-    ensures none { result ≡ None → HandsNothing sealed.now }
+    room: Vec<u8>,
+) -> Result<Rest, JournalFault>
+    requires idle { output.old ≡ [] }
+    requires empty { room.items ≡ [] }
+    ensures rest { IfOk result (IsRest (PartOf sealed.now place) (EndsFile sealed.now place)
+        (HandsNothing sealed.now)) }
     ensures idle { output.new ≡ [] }
 {
     match sealed {
         // (an empty segment has no base of its own)
-        Ok(segment) if segment.entries().is_empty() => None,
-        Ok(segment) => Some(follow(alloc, segment.base(), segment.entries(), output, place)),
-        Err(_) => None,
+        Ok(segment) if segment.entries().is_empty() => Ok(Rest::Nothing(room)),
+        Ok(segment) => rest_in(segment.base(), segment.entries(), output, place, room),
+        Err(_) => Ok(Rest::Nothing(room)),
     }
 }
 
-/// The text of the current segment. It fails only if memory runs out.
-pub(crate) fn segment_text(alloc: Global, book: &Book) -> Result<Vec<u8>, JournalFault>
-    ensures { IfOk result (λ text. text.items ≡ spell_segment (present_segment book.now)) }
+// What a file lacks of a segment's entries.
+fn rest_in(
+    base: &Base,
+    entries: &[Entry],
+    output: &mut Output,
+    place: JournalPosition,
+    room: Vec<u8>,
+) -> Result<Rest, JournalFault>
+    requires idle { output.old ≡ [] }
+    requires empty { room.items ≡ [] }
+    ensures rest { IfOk result (λ rest. IsRestIn place
+        (record { base = base.now; entries = entries.now }) rest) }
+    ensures idle { output.new ≡ [] }
 {
-    let mut output = Output::new(alloc)?;
-    let mut sink = Counted::new(Vec::new(alloc));
-    match export(book, &mut output, &mut sink) {
-        Ok(()) => Ok(sink.into_inner()),
-        Err(DeviceFault) => Err(JournalFault::NoMemory),
+    let (text, next) = next_piece(base, entries, output, place, room)?;
+    if (next.spelled - next.begun) as usize == entries.len() {
+        Ok(Rest::Last(text))
+    } else {
+        Ok(Rest::Part(text, next))
     }
 }
 
 /// The lines of a segment's entries after a place.
 pub(crate) fn follow(
-    alloc: Global,
     base: &Base,
     entries: &[Entry],
     output: &mut Output,
     place: JournalPosition,
+    room: Vec<u8>,
 ) -> Result<Vec<u8>, JournalFault>
-    requires { output.old ≡ [] }
+    requires idle { output.old ≡ [] }
+    requires empty { room.items ≡ [] }
     ensures follows { IfOk result (λ text. Follows place
         (record { base = base.now; entries = entries.now }) text.items) }
     ensures idle { output.new ≡ [] }
 {
     match entries_behind(base, entries, place) {
-        Some(entries) => lines(alloc, entries, output),
+        Some(entries) => lines(entries, output, room),
         None => Err(JournalFault::Elsewhere),
     }
 }
 
-// The lines of entries. It fails only if memory runs out.
-fn lines(alloc: Global, entries: &[Entry], output: &mut Output) -> Result<Vec<u8>, JournalFault>
-    requires { output.old ≡ [] }
+// The lines of entries. It fails only if the room is too small and memory runs out.
+fn lines(entries: &[Entry], output: &mut Output, room: Vec<u8>) -> Result<Vec<u8>, JournalFault>
+    requires idle { output.old ≡ [] }
+    requires empty { room.items ≡ [] }
     ensures lines { IfOk result (λ text. text.items ≡ entry_lines Two entries.now) }
     ensures idle { output.new ≡ [] }
 {
-    let mut sink = Counted::new(Vec::new(alloc));
+    let mut sink = Counted::new(room);
     match write_lines(entries, output, &mut sink) {
         Ok(()) => Ok(sink.into_inner()),
         Err(DeviceFault) => Err(JournalFault::NoMemory),
@@ -98,8 +109,8 @@ fn write_lines<W: Sink>(
     flushed
 }
 
-// A segment's entries after a place in it.
-fn entries_behind<'a>(
+/// A segment's entries after a place in it.
+pub(crate) fn entries_behind<'a>(
     base: &Base,
     entries: &'a [Entry],
     place: JournalPosition,

@@ -1,8 +1,9 @@
 //! Pages fetched over TCP, each over a connection of its own.
-ghost use Rattle.std.specs.Prelude.{◌≡◌, None, IfOk};
+ghost use Rattle.std.specs.Prelude.{◌≡◌, [], None, IfOk};
 ghost use Rattle.http_wire.specs.Response.{Tells};
 ghost use Rattle.http_wire.specs.declared.fault.WireFault.TheVariants.{Device};
 ghost use Rattle.http_client.specs.Agent.{IsAgent};
+ghost use Rattle.http_client.specs.declared.reach.Reach.TheVariants.{Anywhere};
 
 use crate::address_block::AddressBlock;
 use crate::deadline::Deadline;
@@ -47,24 +48,34 @@ struct Asked<'a> {
 }
 
 impl<R: Net<Stream = TcpStream> + time::Clock> Model for TcpClient<R> {
-    ghost use Rattle.http_client.specs.declared.time_limits.TimeLimits.{TimeLimits};
+    ghost use Rattle.http_client.specs.Clients.{ClientView, blocks_of};
 
-    ghost Value = { TimeLimits };
+    ghost Value = { ClientView };
 
-    ghost view = { λ client. client.limits };
+    ghost view = { λ client. record {
+      limits = client.limits;
+      reach = client.reach;
+      not_to = blocks_of client.not_to;
+      tls_by = client.tls_by;
+    } };
 }
 
 impl<R: Net<Stream = TcpStream> + time::Clock> TcpClient<R> {
     /// A client that connects to any address, within these time limits.
     pub fn new(rt: R, limits: TimeLimits) -> TcpClient<R>
-        ensures { result ≡ limits }
+        ensures { result ≡ record {
+          limits = limits;
+          reach = Anywhere;
+          not_to = [];
+          tls_by = None;
+        } }
     {
         TcpClient::reaching(rt, limits, Reach::Anywhere)
     }
 
     /// A client that connects to addresses within this reach, within these time limits.
     pub fn reaching(rt: R, limits: TimeLimits, reach: Reach) -> TcpClient<R>
-        ensures { result ≡ limits }
+        ensures { result ≡ record { limits = limits; reach = reach; not_to = []; tls_by = None } }
     {
         TcpClient::with_tls(rt, limits, reach, None)
     }
@@ -78,7 +89,7 @@ impl<R: Net<Stream = TcpStream> + time::Clock> TcpClient<R> {
         reach: Reach,
         tls_by: Option<SocketAddr>,
     ) -> TcpClient<R>
-        ensures { result ≡ limits }
+        ensures { result ≡ record { limits = limits; reach = reach; not_to = []; tls_by = tls_by } }
     {
         TcpClient {
             rt,
@@ -95,7 +106,10 @@ impl<R: Net<Stream = TcpStream> + time::Clock> TcpClient<R> {
     pub fn avoiding(self, not_to: Vec<AddressBlock>) -> TcpClient<R>
     where
         R: Drop,
-        ensures { result ≡ self }
+        ensures not_to { result.not_to ≡ not_to.items }
+        ensures limits { result.limits ≡ self.limits }
+        ensures reach { result.reach ≡ self.reach }
+        ensures tls { result.tls_by ≡ self.tls_by }
     {
         let TcpClient {
             rt,
@@ -123,7 +137,7 @@ impl<R: Net<Stream = TcpStream> + time::Clock> TcpClient<R> {
 
     /// The time of a whole fetch, from now on. Several fetches may share it.
     pub fn begin(&self) -> io::Result<Deadline>
-        ensures { IfOk result (λ deadline. deadline.whole ≡ self.now.whole) }
+        ensures { IfOk result (λ deadline. deadline.whole ≡ self.now.limits.whole) }
     {
         Deadline::begin(&self.rt, self.limits.whole)
     }
@@ -311,7 +325,9 @@ impl<R: Net<Stream = TcpStream> + time::Clock> TcpClient<R> {
         Some(way)
     }
 
-    fn not_to(&self) -> &[AddressBlock] {
+    fn not_to(&self) -> &[AddressBlock]
+        ensures { result.now ≡ self.now.not_to }
+    {
         match &self.not_to {
             Some(blocks) => blocks.as_slice(),
             None => &[],
@@ -359,7 +375,7 @@ impl<R: Net<Stream = TcpStream> + time::Clock> TcpClient<R> {
         stream: &'a TcpStream,
         deadline: Deadline,
     ) -> TimedStream<'a, R, &'a TcpStream>
-        ensures step { result.step ≡ self.now.step }
+        ensures step { result.step ≡ self.now.limits.step }
         ensures deadline { result.deadline ≡ deadline }
     {
         TimedStream {

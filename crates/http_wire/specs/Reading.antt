@@ -1,6 +1,6 @@
 -- What reads of a source leave, and what the reader's parts answer for the whole input.
 -- Cited by their contracts.
-use Rattle.std.specs.Prelude.{◌≡◌, ℕ, ◌+◌, ◌<◌, ◌≤◌, List, ◌++◌, length, drop, take, Option, IfSome, Result, Ok, Err, ⊤}
+use Rattle.std.specs.Prelude.{◌≡◌, ℕ, ◌+◌, ◌-◌, ◌<◌, ◌≤◌, List, ◌++◌, length, drop, take, Option, None, Some, IfSome, Result, Ok, Err, ⊤}
 use Rattle.std.specs.Io.KnownBytes.{Consumes, IsAtEnd}
 use Rattle.http_wire.specs.Bodies.{Gives, EndsInBody, IsBodyPrefix, IsBadBody}
 use Rattle.http_wire.specs.declared.body.Body.{Body}
@@ -16,6 +16,16 @@ pub record Grows (left left' : Option (List ℕ)) (old new : List ℕ) : Type 0 
   pub piece : List ℕ
   pub read : Consumes left left' piece
   pub grown : new ≡ old ++ piece
+
+-- no more than so many octets were taken from a source, whatever the answer
+abbrev pub TakesAtMost : ℕ → Option (List ℕ) → Option (List ℕ) → Type 0
+TakesAtMost most None left' = ⊤
+TakesAtMost most (Some octets) None = ⊥
+TakesAtMost most (Some octets) (Some octets') = length octets ≤ most + length octets'
+
+-- no more than what is missing in the buffer to the longest response, and one octet that shows that there are more
+abbrev pub TakesTheRest : List ℕ → Option (List ℕ) → Option (List ℕ) → Type 0
+TakesTheRest old left left' = TakesAtMost (max_raw + 1 - length old) left left'
 
 -- the effect of a call that fills the buffer, by its answer
 abbrev pub Fills : Option (List ℕ) → Option (List ℕ) → List ℕ → List ℕ → Fill → Type 0

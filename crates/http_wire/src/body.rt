@@ -1,7 +1,7 @@
 //! Bodies, read by their framing.
 //! RFC 9112, section 6.
 ghost use Rattle.std.specs.Prelude.{◌≡◌, ◌≤◌, length};
-ghost use Rattle.http_wire.specs.Reading.{ReadsBody};
+ghost use Rattle.http_wire.specs.Reading.{ReadsBody, TakesTheRest};
 ghost use Rattle.http_wire.specs.Response.{failures_after_reading};
 
 use crate::body_decoder::BodyDecoder;
@@ -35,6 +35,7 @@ pub(crate) fn read_body<S: Source>(
     requires within { length buffer.old ≤ MAX_RAW }
     ensures reads { ReadsBody framing limit start (S.left source.old) buffer.old result }
     ensures count { S.failures source.new ≡ failures_after_reading (S.failures source.old) result }
+    ensures takes { TakesTheRest buffer.old (S.left source.old) (S.left source.new) }
 {
     let mut decoder = BodyDecoder::new(alloc, framing, start, limit);
     match fill_until(alloc, source, buffer, &mut decoder)? {

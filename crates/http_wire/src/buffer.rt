@@ -1,9 +1,9 @@
 //! The octets received, and reads of more.
 //! A response is read into one buffer, so its octets can be looked at again.
 ghost use Rattle.std.specs.Io.KnownBytes.{IsAtEnd};
-ghost use Rattle.std.specs.Prelude.{◌≡◌, ◌≤◌, ◌<◌, ◌+◌, Ok, ◌⊎◌, [], Err, length, drop, take, IfOk, OnOk, OnErr, vec_len};
+ghost use Rattle.std.specs.Prelude.{◌≡◌, ◌≤◌, ◌<◌, ◌+◌, ◌-◌, Ok, ◌⊎◌, [], Err, length, drop, take, IfOk, OnOk, OnErr, vec_len};
 ghost use Rattle.counted_io.specs.Device.{failures_after};
-ghost use Rattle.http_wire.specs.Reading.{Fills, Grows};
+ghost use Rattle.http_wire.specs.Reading.{Fills, Grows, TakesAtMost, TakesTheRest};
 ghost use Rattle.http_wire.specs.Response.{failures_after_reading};
 
 use crate::fault::WireFault;
@@ -74,6 +74,7 @@ impl Buffer {
         ensures err { OnErr result
             ((result ≡ Err WireFault.Device) ⊎ (result ≡ Err WireFault.NoMemory)) }
         ensures within { length self.new ≤ MAX_RAW }
+        ensures takes { TakesTheRest self.old (S.left source.old) (S.left source.new) }
     {
         if self.end == MAX_RAW {
             return self.look_past(source);
@@ -107,6 +108,7 @@ impl Buffer {
         ensures count { S.failures source.new
             ≡ failures_after_reading (S.failures source.old) result }
         ensures err { OnErr result (result ≡ Err WireFault.Device) }
+        ensures takes { TakesAtMost 1 (S.left source.old) (S.left source.new) }
     {
         match source.read(&mut [0])? {
             0 => Ok(Fill::Ended),
@@ -137,6 +139,7 @@ fn read_behind<S: Source>(source: &mut S, room: &mut [u8], end: usize) -> Result
         (take end room.old) (take (end + count) room.new)) }
     ensures ended { result ≡ Ok 0 → IsAtEnd (S.left source.old) }
     ensures kept { (length room.new ≡ length room.old) × (take end room.new ≡ take end room.old) }
+    ensures takes { TakesAtMost (length room.old - end) (S.left source.old) (S.left source.new) }
     ensures count { S.failures source.new ≡ failures_after (S.failures source.old) result }
 {
     source.read(&mut room[end..])

@@ -2,6 +2,7 @@
 //! RFC 9112, section 2.2. Between two looks lies one read.
 ghost use Rattle.std.specs.Prelude.{◌≡◌, ◌≢◌, ◌≤◌, ◌++◌, ℕ, List, Err, length, IfErr, IfOk, MatchOption};
 ghost use Rattle.http_wire.specs.Parts.{Breaks, Stops};
+ghost use Rattle.http_wire.specs.Reading.{TakesTheRest};
 ghost use Rattle.http_wire.specs.Response.{failures_after_reading};
 
 use crate::buffer::{Buffer, Fill};
@@ -77,6 +78,7 @@ pub(crate) fn fill_until<S: Source, P: Part>(
     ensures err { IfErr result
         (Breaks (P.refuses (P.kept part.old)) (S.left source.old) buffer.old) }
     ensures count { S.failures source.new ≡ failures_after_reading (S.failures source.old) result }
+    ensures takes { TakesTheRest buffer.old (S.left source.old) (S.left source.new) }
 {
     loop {
         match part.look(alloc, buffer)? {

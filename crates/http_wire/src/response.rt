@@ -1,9 +1,9 @@
 //! Responses, read from a source.
 //! RFC 9112, sections 2 and 6.
-ghost use Rattle.std.specs.Prelude.{◌≡◌, ◌≤◌, [], length, IfErr, IfOk};
+ghost use Rattle.std.specs.Prelude.{◌≡◌, ◌+◌, ◌≤◌, [], length, IfErr, IfOk};
 ghost use Rattle.http_wire.specs.Finding.{Fails, IsFound};
-ghost use Rattle.http_wire.specs.Limits.{AreLimits};
-ghost use Rattle.http_wire.specs.Reading.{Grows};
+ghost use Rattle.http_wire.specs.Limits.{AreLimits, max_raw};
+ghost use Rattle.http_wire.specs.Reading.{Grows, TakesAtMost};
 ghost use Rattle.http_wire.specs.Response.{Finds, Tells, failures_after_reading};
 
 use crate::body::read_body;
@@ -44,6 +44,7 @@ pub fn read_response<S: Source>(
     ensures found { Finds (S.left source.old) limit result }
     ensures limits { AreLimits }
     ensures count { S.failures source.new ≡ failures_after_reading (S.failures source.old) result }
+    ensures takes { TakesAtMost (max_raw + 1) (S.left source.old) (S.left source.new) }
 {
     read_reply(alloc, source, limit)
 }
@@ -56,6 +57,7 @@ fn read_reply<S: Source>(
 ) -> Result<HttpReply, WireFault>
     ensures tells { Tells (S.left source.old) limit result }
     ensures count { S.failures source.new ≡ failures_after_reading (S.failures source.old) result }
+    ensures takes { TakesAtMost (max_raw + 1) (S.left source.old) (S.left source.new) }
 {
     let mut buffer = Buffer::new(alloc);
     let head = read_final(alloc, source, &mut buffer)?;
@@ -81,6 +83,7 @@ fn read_final<S: Source>(
     ensures few { IfOk result (λ _. length buffer.new ≤ MAX_RAW) }
     ensures fails { IfErr result (Fails (S.left source.old) []) }
     ensures count { S.failures source.new ≡ failures_after_reading (S.failures source.old) result }
+    ensures takes { TakesAtMost (max_raw + 1) (S.left source.old) (S.left source.new) }
 {
     let mut finder = HeadFinder::new();
     match fill_until(alloc, source, buffer, &mut finder)? {

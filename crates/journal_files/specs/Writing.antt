@@ -1,9 +1,13 @@
 -- A journal's writer in contracts, and what it does.
 -- Used by `Writer`.
-use Rattle.std.specs.Prelude.{◌≡◌, ◌⊎◌, ℕ, List, Bool, true, false}
+use Rattle.std.specs.Prelude.{◌≡◌, ◌⊎◌, ℕ, List, [], Bool, true, false}
 use Rattle.journal_tape.specs.Crash.{HasKept}
 use Rattle.journal_tape.specs.Journal.{Noted, Writes}
+use Rattle.journal_files.specs.declared.chronicle.Rest.{Rest}
+use Rattle.journal_files.specs.declared.chronicle.Rest.TheVariants.{Nothing, Part, Last}
 use Rattle.journal_files.specs.declared.position.JournalPosition.{JournalPosition}
+use Rattle.journal_files.specs.declared.rotation.Turned.{Turned}
+use Rattle.journal_files.specs.declared.rotation.Turned.TheVariants as turned
 use Rattle.journal_files.specs.Shelves.{HasHead}
 
 -- the tape of the last file, and where its text ends
@@ -36,6 +40,16 @@ pub record TurnsOver (Ends : List ℕ → Type 0) (begins : List ℕ → Journal
   pub ends : WritesText Ends old ended true
   pub next : Begins begins new
 
--- a file was turned over, or nothing changed
-abbrev pub TurnsOverOrStays : (List ℕ → Type 0) → (List ℕ → JournalPosition → Type 0) → Written → Written → Type 0
-TurnsOverOrStays Ends begins old new = TurnsOver Ends begins old new ⊎ (new ≡ old)
+-- what a file lacks of what was sealed: nothing, since nothing was; or some entries' text, and its end; or the text
+-- that ends it
+abbrev pub IsRest : (List ℕ → JournalPosition → Type 0) → (List ℕ → Type 0) → Type 0 → Rest → Type 0
+IsRest parts Ends NothingSealed (Nothing memory) = NothingSealed × (memory.items ≡ [])
+IsRest parts Ends NothingSealed (Part text place) = parts text.items place
+IsRest parts Ends NothingSealed (Last text) = Ends text.items
+
+-- some of what was sealed was written; or a file was turned over; or nothing was sealed, and nothing changed
+abbrev pub Turns : (List ℕ → JournalPosition → Type 0) → (List ℕ → Type 0) → Type 0
+    → (List ℕ → JournalPosition → Type 0) → Written → Written → Turned → Type 0
+Turns parts Ends NothingSealed begins old new turned.Part = WritesText (λ text. parts text new.place) old new false
+Turns parts Ends NothingSealed begins old new turned.Done =
+    TurnsOver Ends begins old new ⊎ (NothingSealed × (new ≡ old))

@@ -1,11 +1,13 @@
 //! `Folder`: a folder with a journal's files, for one process at a time.
 //! A file gets its name only once it has its whole base.
+use crate::chronicle::Chronicle;
 use crate::fault::{FolderFault, JournalFault};
 use crate::last_file::LastFile;
 use crate::names::{LOCK_NAME, NEW_NAME, file_name, is_file_name, path_in};
 use crate::regular::{leads_to, open_regular};
-use crate::shelf::Shelf;
-use crate::writing::keep;
+use crate::shelf::{BegunFile, Shelf};
+use crate::writing::NewFile;
+use counted_io::{DeviceFault, Output};
 use journal_tape::FileTape;
 use std::alloc::{AllocError, Global};
 use std::fs::{DirBuilder, File, Files, TryLockError};
@@ -75,16 +77,22 @@ impl<R: Files<File = File> + AllocGlobal + Clone + Drop> Folder<R> {
         }
     }
 
-    // Writes a whole file under a temporary name, and then renames it.
-    fn write_file(&self, name: &str, head: &[u8]) -> io::Result<FileTape<File>> {
+    // Makes a file with a temporary name.
+    fn make_new(&self) -> io::Result<File> {
         let new = path_in(self.alloc, self.path.as_str(), NEW_NAME)?;
-        let name = path_in(self.alloc, self.path.as_str(), name)?;
         remove_if_there(&self.rt, new.as_str())?;
-        let file = File::options()
+        File::options()
             .write(true)
             .create_new(true)
-            .open(&self.rt, new.as_str())?;
-        let tape = keep(FileTape::new(file), head)?;
+            .open(&self.rt, new.as_str())
+    }
+
+    // Waits until a crash keeps the new file, and then gives it its name.
+    fn name_new(&self, file: NewFile, entries: u64) -> io::Result<FileTape<File>> {
+        let tape = file.keep()?;
+        let new = path_in(self.alloc, self.path.as_str(), NEW_NAME)?;
+        let name = file_name(self.alloc, entries)?;
+        let name = path_in(self.alloc, self.path.as_str(), name.as_str())?;
         fs::rename(&self.rt, new.as_str(), name.as_str())?;
         // A synced folder keeps its names in a crash.
         self.home.sync_all()?;
@@ -95,12 +103,25 @@ impl<R: Files<File = File> + AllocGlobal + Clone + Drop> Folder<R> {
 impl<R: Files<File = File> + AllocGlobal + Clone + Drop> Shelf for Folder<R> {
     type Tape = FileTape<File>;
 
-    fn put_up(&mut self, entries: u64, head: &[u8]) -> Result<FileTape<File>, JournalFault> {
+    fn put_up<H: Chronicle>(
+        &mut self,
+        chronicle: &H,
+        output: &mut Output,
+    ) -> Result<BegunFile<FileTape<File>>, JournalFault> {
         self.look()?;
-        let name = file_name(self.alloc, entries)?;
-        match self.write_file(name.as_str(), head) {
-            Ok(tape) => Ok(tape),
-            Err(cause) => Err(fault_of(cause, head.len() as u64)),
+        let mut file = NewFile::new(self.make_new());
+        let place = match chronicle.begin(output, &mut file) {
+            Ok(place) => place,
+            Err(DeviceFault) => return Err(JournalFault::Device(None)),
+        };
+        let octets = file.octets();
+        match self.name_new(file, place.begun) {
+            Ok(tape) => Ok(BegunFile {
+                tape,
+                place,
+                octets,
+            }),
+            Err(cause) => Err(fault_of(cause, octets)),
         }
     }
 
@@ -125,6 +146,7 @@ impl<R: Files<File = File> + AllocGlobal + Clone + Drop> Shelf for Folder<R> {
 fn fault_of(cause: io::Error, octets: u64) -> JournalFault {
     match cause.kind() {
         ErrorKind::StorageFull | ErrorKind::QuotaExceeded => JournalFault::NoRoom(octets),
+        ErrorKind::OutOfMemory => JournalFault::NoMemory,
         _ => JournalFault::Device(Some(cause)),
     }
 }

@@ -108,17 +108,21 @@ impl<S: Shelf + Drop> GroupJournal<S> {
     }
 
     /// Waits until the files have all entries that exist now, and a crash keeps them if the policy is
-    /// `Always`.
+    /// `Always`. It takes no memory.
     pub fn come_up<H: Chronicle, R: Wait>(&self, rt: &R, chronicle: &H) -> Result<(), DeviceFault> {
-        match self.take_writer(rt, chronicle.entry_count()) {
-            WriterAccess::Reached => Ok(()),
-            WriterAccess::Failed => Err(DeviceFault),
-            WriterAccess::Taken(writer) => {
-                let mut writer = writer;
-                let outcome = writer.come_up(chronicle, self.policy == SyncPolicy::Always);
-                self.put_back(rt, writer, outcome)
+        let target = chronicle.entry_count();
+        for _ in rt.forever() {
+            match self.take_writer(rt, target) {
+                WriterAccess::Reached => return Ok(()),
+                WriterAccess::Failed => return Err(DeviceFault),
+                WriterAccess::Taken(writer) => {
+                    let mut writer = writer;
+                    let outcome = writer.come_up(chronicle, self.policy == SyncPolicy::Always);
+                    self.put_back(rt, writer, outcome)?;
+                }
             }
         }
+        unreachable!()
     }
 
     /// Fails if the files' place is no longer there, and looks for room if there was none. With the policy

@@ -20,7 +20,7 @@ mod shelf;
 mod writer;
 mod writing;
 
-pub use crate::chronicle::{Chronicle, Sealer, Spelled};
+pub use crate::chronicle::{Chronicle, Rest, Sealer, Spelled};
 pub use crate::fault::{FolderFault, JournalFault};
 pub use crate::folder::Folder;
 pub use crate::group::{FILE_OCTETS, GroupJournal};
@@ -30,4 +30,4 @@ pub use crate::names::file_name;
 pub use crate::policy::SyncPolicy;
 pub use crate::position::JournalPosition;
 pub use crate::recorder::{Abreast, Recorder, Unrecorded};
-pub use crate::shelf::Shelf;
+pub use crate::shelf::{BegunFile, Shelf};

@@ -1,28 +1,31 @@
 //! Writes a journal: formats what the files lack, and writes that.
 //! One thread has it at a time; `GroupJournal` passes it on.
-ghost use Rattle.std.specs.Prelude.{◌≡◌, ◌≢◌, [], IfOk, IfSome, OnOk, true};
+ghost use Rattle.std.specs.Prelude.{◌≡◌, ◌≢◌, [], IfOk, OnOk, false, true};
 ghost use Rattle.journal_tape.specs.Crash.{HasKept};
 ghost use Rattle.journal_tape.specs.Journal.{Writes};
 ghost use Rattle.journal_files.specs.declared.policy.SyncPolicy.TheVariants as SyncPolicy;
-ghost use Rattle.journal_files.specs.Writing.{Begins, ComesUpTo, WritesText};
+ghost use Rattle.journal_files.specs.Writing.{Begins, ComesUpTo, IsRest, WritesText};
 
-use crate::chronicle::{Chronicle, Sealer, Spelled};
+use crate::chronicle::{Chronicle, Rest, Sealer, Spelled};
 use crate::fault::JournalFault;
 use crate::files_room::FilesRoom;
 use crate::group::FILE_OCTETS;
 use crate::policy::SyncPolicy;
 use crate::position::JournalPosition;
-use crate::shelf::Shelf;
+use crate::shelf::{BegunFile, Shelf};
 use counted_io::Output;
 use journal_tape::{Journal, Tape};
 use std::alloc::Global;
 use std::marker::Model;
+use std::mem;
 
-// The last file, the end of its text, and its octets, now and at its beginning; and the room for all files.
+// The last file, the end of its text, and its octets, now and at its beginning; the memory for texts of
+// entries; and the room for all files.
 #[derive(Drop)]
 pub(crate) struct Writer<S: Shelf> {
     alloc: Global,
     output: Output,
+    memory: Vec<u8>,
     shelf: S,
     journal: Journal<S::Tape>,
     place: JournalPosition,
@@ -39,7 +42,7 @@ impl<S: Shelf> Model for Writer<S> {
 
     ghost view = { λ w. record { noted = w.journal; place = w.place } };
 
-    ghost invariant = { λ w. w.output ≡ [] };
+    ghost invariant = { λ w. (w.output ≡ []) × (w.memory.items ≡ []) };
 }
 
 impl<S: Shelf> Writer<S> {
@@ -56,9 +59,12 @@ impl<S: Shelf> Writer<S> {
     {
         let mut shelf = shelf;
         let mut output = Output::new(alloc)?;
-        let (text, place) = chronicle.begin(&mut output)?;
-        let tape = shelf.put_up(place.begun, text.as_slice())?;
-        let size = text.len() as u64;
+        let memory = chronicle.room()?;
+        let BegunFile {
+            tape,
+            place,
+            octets,
+        } = shelf.put_up(chronicle, &mut output)?;
         let mut room = FilesRoom::new(limit);
         if room.is_limited() {
             room.set(shelf.octets()?);
@@ -66,11 +72,12 @@ impl<S: Shelf> Writer<S> {
         Ok(Writer {
             alloc,
             output,
+            memory,
             shelf,
             journal: Journal::new(tape),
             place,
-            octets: size,
-            head: size,
+            octets,
+            head: octets,
             room,
         })
     }
@@ -121,14 +128,32 @@ impl<S: Shelf> Writer<S> {
         }
     }
 
-    // Formats and writes what is missing.
+    // Formats and writes the next piece of what is missing.
     pub fn come_up<H: Chronicle>(&mut self, chronicle: &H, always: bool) -> Result<(), JournalFault>
         ensures { OnOk result (ComesUpTo (H.follows chronicle.now) self.old self.new always) }
     {
         let (text, place) = self.spell(chronicle)?;
         self.write(text.as_slice(), always)?;
         self.place = place;
+        self.give_back(text);
         Ok(())
+    }
+
+    // Takes back the memory of a text for the next one.
+    pub fn give_back(&mut self, memory: Vec<u8>)
+        ensures { self.new ≡ self.old }
+    {
+        let mut memory = memory;
+        memory.clear();
+        self.memory = memory;
+    }
+
+    // The memory for a text.
+    fn take_memory(&mut self) -> Vec<u8>
+        ensures empty { result.items ≡ [] }
+        ensures same { self.new ≡ self.old }
+    {
+        mem::replace(&mut self.memory, Vec::new(self.alloc))
     }
 
     // Waits until a crash keeps all that was written.
@@ -138,6 +163,16 @@ impl<S: Shelf> Writer<S> {
         ensures place { self.new.place ≡ self.old.place }
     {
         self.write(&[], true)
+    }
+
+    // Writes some entries of what was sealed.
+    pub fn write_part(&mut self, text: &[u8], place: JournalPosition) -> Result<(), JournalFault>
+        ensures writes { OnOk result (WritesText (λ t. t ≡ text.now) self.old self.new false) }
+        ensures place { OnOk result (self.new.place ≡ place) }
+    {
+        self.write(text, false)?;
+        self.place = place;
+        Ok(())
     }
 
     // Writes the end of the file, and syncs it.
@@ -150,32 +185,37 @@ impl<S: Shelf> Writer<S> {
     pub fn begin_file<H: Chronicle>(&mut self, chronicle: &H) -> Result<(), JournalFault>
         ensures { OnOk result (Begins (H.begins chronicle.now) self.new) }
     {
-        let (text, place) = chronicle.begin(&mut self.output)?;
-        let tape = self.shelf.put_up(place.begun, text.as_slice())?;
+        let BegunFile {
+            tape,
+            place,
+            octets,
+        } = self.shelf.put_up(chronicle, &mut self.output)?;
         self.journal = Journal::new(tape);
         self.place = place;
-        self.head = text.len() as u64;
-        self.octets = self.head;
-        self.room.add(self.head);
+        self.head = octets;
+        self.octets = octets;
+        self.room.add(octets);
         Ok(())
     }
 
-    // The text of what is missing.
+    // The text of the next piece of what is missing.
     fn spell<H: Chronicle>(&mut self, chronicle: &H) -> Result<Spelled, JournalFault>
         ensures follows { IfOk result (λ text.
             H.follows chronicle.now self.old.place text.0.items text.1) }
         ensures same { self.new ≡ self.old }
     {
-        chronicle.follow(&mut self.output, self.place)
+        let memory = self.take_memory();
+        chronicle.follow(&mut self.output, self.place, memory)
     }
 
-    // The text that ends the file after a seal, if any.
-    pub fn rest<K: Sealer>(&mut self, sealed: &K::Sealed) -> Option<Result<Vec<u8>, JournalFault>>
-        ensures ends { IfSome result (λ rest. IfOk rest (λ text.
-            K.ends sealed.now self.old.place text.items)) }
+    // The next text of what the file lacks of what was sealed.
+    pub fn rest<K: Sealer>(&mut self, sealed: &K::Sealed) -> Result<Rest, JournalFault>
+        ensures rest { IfOk result (IsRest (K.parts sealed.now self.old.place)
+            (K.ends sealed.now self.old.place) (K.nothing sealed.now)) }
         ensures same { self.new ≡ self.old }
     {
-        K::rest(self.alloc, sealed, &mut self.output, self.place)
+        let memory = self.take_memory();
+        K::rest(sealed, &mut self.output, self.place, memory)
     }
 
     // Appends a text, and syncs it if asked.

@@ -6,9 +6,8 @@ use counted_io::Output;
 use gate_core::NoMemory;
 use gate_history::Segment;
 use gate_journal::rest_of;
-use journal_files::{JournalFault, JournalPosition, Sealer};
+use journal_files::{JournalFault, JournalPosition, Rest, Sealer};
 use keepers::Keeper;
-use std::alloc::Global;
 
 /// A keeper, perhaps one that must be closed.
 pub(crate) struct KeeperSealer<K> {
@@ -16,24 +15,28 @@ pub(crate) struct KeeperSealer<K> {
 }
 
 impl<K: Keeper> Sealer for KeeperSealer<K> {
-    ghost use Rattle.gate_journal.specs.Follows.{EndsFile};
+    ghost use Rattle.gate_journal.specs.Follows.{EndsFile, HandsNothing, PartOf};
 
     type Sealed = Result<Segment, NoMemory>;
 
     ghost seals = { λ s sealed s2. K.deals.seals s.keeper sealed s2.keeper };
 
+    ghost parts = { PartOf };
+
     ghost ends = { EndsFile };
+
+    ghost nothing = { HandsNothing };
 
     fn seal(&mut self) -> Result<Segment, NoMemory> {
         self.keeper.seal()
     }
 
     fn rest(
-        alloc: Global,
         sealed: &Result<Segment, NoMemory>,
         output: &mut Output,
         place: JournalPosition,
-    ) -> Option<Result<Vec<u8>, JournalFault>> {
-        rest_of(alloc, sealed, output, place)
+        room: Vec<u8>,
+    ) -> Result<Rest, JournalFault> {
+        rest_of(sealed, output, place, room)
     }
 }

@@ -2,7 +2,9 @@
 -- The contracts of `warden.rt`.
 use Rattle.std.specs.Prelude.{◌≡◌, ◌⊎◌, ℕ, zero, suc, ◌-◌, Bool, nat_le, nat_lt, ◌||◌, if◌then◌else◌, Result}
 use Rattle.gate_core.specs.declared.refusal.SweepRefusal.{SweepRefusal}
-use Rattle.gate_lock.specs.Desks.{DeskView}
+use Rattle.gate_core.specs.declared.config.Limits.{Limits}
+use Rattle.gate_lock.specs.Desks.{DeskView, IsNew, receipt_of}
+use Rattle.gate_marks.specs.Marks.{Receipt}
 use Rattle.gate_lock.specs.Steps.{DeskSweeps, Somewhere}
 use Rattle.command_server.specs.Readings.{reading_after}
 
@@ -37,3 +39,8 @@ GoesRoundsTo reads (suc rounds) d d2 =
 -- some rounds
 abbrev pub GoesRounds : (ℕ → ℕ → Type 0) → DeskView → DeskView → Type 0
 GoesRounds reads d d2 = (rounds : ℕ) × GoesRoundsTo reads rounds d d2
+
+-- the receipts of a new desk of a lock with these limits, which went its rounds and did nothing else
+abbrev pub IsSwept : (ℕ → ℕ → Type 0) → Limits → Receipt → Type 0
+IsSwept reads limits receipt =
+    (d : DeskView) × ((d2 : DeskView) × (IsNew limits d × (GoesRounds reads d d2 × (receipt ≡ receipt_of d2))))

@@ -2,7 +2,7 @@
 //! Made by `Server::run`, for its workers.
 ghost use Rattle.std.specs.Prelude.{◌≡◌, ◌≤◌, All};
 ghost use Rattle.job_line.specs.Limits.{max_jobs};
-ghost use Rattle.line_server.specs.Servers.{AreNumbered};
+ghost use Rattle.line_server.specs.Servers.{AreNumbered, Draws};
 
 use client_connections::Connections;
 use job_line::{JobLine, JobSeat, MAX_JOBS, MAX_WORKERS};
@@ -41,7 +41,9 @@ pub(crate) struct ConnectionNumbers<'l> {
 
 impl ConnectionNumbers<'_> {
     /// Draws a number; false if none was left.
-    pub(crate) fn draw(&mut self) -> bool {
+    pub(crate) fn draw(&mut self) -> bool
+        ensures { Draws self.old.seat self.new.seat result }
+    {
         self.line.draw(&mut self.seat).is_some()
     }
 }

@@ -1,9 +1,9 @@
 //! Maintains a gate while workers serve: sweeps expired answers, and reports a full history.
 //! RFC 9309, section 2.4.
-ghost use Rattle.std.specs.Prelude.{◌≡◌};
+ghost use Rattle.std.specs.Prelude.{◌≡◌, IfOk};
 ghost use Rattle.gate_lock.specs.Desks.{KeepsOut};
 ghost use Rattle.command_server.specs.Readings.{next_reading};
-ghost use Rattle.line_server.specs.Sweeping.{GoesRounds, MaySweep, is_due};
+ghost use Rattle.line_server.specs.Sweeping.{GoesRounds, IsSwept, MaySweep, is_due};
 
 use crate::clerk::Clerk;
 use crate::fault::ServeFault;
@@ -52,7 +52,10 @@ impl<F: Fetcher, C: NumberedClock, A: Alarm, R: Wait + time::Clock> Server<'_, F
         &self,
         recorded: &Recorded<'_, G, J, R>,
         left: &AtomicU64,
-    ) -> Result<(Receipts<G>, Receipts<G>), ServeFault> {
+    ) -> Result<(Receipts<G>, Receipts<G>), ServeFault>
+        ensures swept { IfOk result (λ both. IsSwept (C.reads self.now.clock.now)
+            recorded.now.chronicle.gate.now both.0) }
+    {
         let mut clerk = Clerk::open(self.alloc, recorded)?;
         let swept = self.sweep_all(recorded.chronicle.gate, &mut clerk, left);
         let sealed = clerk.close();
@@ -65,7 +68,9 @@ impl<F: Fetcher, C: NumberedClock, A: Alarm, R: Wait + time::Clock> Server<'_, F
         gate: &GateLock<G>,
         clerk: &mut Clerk<'_, '_, G, J, R>,
         left: &AtomicU64,
-    ) -> Result<Receipts<G>, ServeFault> {
+    ) -> Result<Receipts<G>, ServeFault>
+        ensures swept { IfOk result (IsSwept (C.reads self.now.clock.now) gate.now) }
+    {
         let mut desk = gate.desk(self.rt, self.alloc)?;
         self.go_round(clerk, left, &mut desk);
         Ok(desk.close())

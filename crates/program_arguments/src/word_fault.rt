@@ -26,12 +26,14 @@ impl WordFault {
     /// What is told of it.
     pub(crate) fn reason(self) -> &'static str {
         match self {
-            WordFault::Number => "a number is written in digits alone",
-            WordFault::Path => "a socket's path has 1 to 96 octets, and no control characters",
+            WordFault::Number => "a number is written in digits alone, without a sign",
+            WordFault::Path => {
+                "the path of --socket or --seal-socket has 1 to 96 octets, and no control characters"
+            },
             WordFault::Contact => {
-                "a contact has 1 to 256 characters of ASCII, and no parenthesis or backslash"
+                "--contact has 1 to 256 characters of ASCII, and no parenthesis or backslash"
             }
-            WordFault::Sync => "a journal is synced always, each second or never",
+            WordFault::Sync => "--journal-sync is always, second or never",
             WordFault::TlsBy => {
                 "--tls-by names an address of this machine and a port, as 127.0.0.1:3131 or [::1]:3131"
             }

@@ -101,13 +101,24 @@ fn choice_of(read: Result<Subcommand, WordFault>) -> Result<Chosen, AllocError>
     }
 }
 
-// Whether an argument, or its part after `=`, begins with a plus sign. (Rust reads `+5` as a number.) A
-// contact may.
+// The options whose value is no number.
+const TEXT_OPTIONS: [&str; 7] = [
+    "--contact",
+    "--journal",
+    "--journal-sync",
+    "--not-to",
+    "--seal-socket",
+    "--socket",
+    "--tls-by",
+];
+
+// Whether an argument, or its part after `=`, begins with a plus sign, but for a text. (Rust reads `+5` as a
+// number.)
 fn has_sign(words: &[&str]) -> bool {
     let mut before = "";
     for word in words {
         let (name, value) = word.split_once('=').unwrap_or((before, *word));
-        if value.starts_with('+') && name != "--contact" {
+        if value.starts_with('+') && !TEXT_OPTIONS.contains(&name) {
             return true;
         }
         before = *word;
