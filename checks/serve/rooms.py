@@ -156,8 +156,12 @@ def little_memory(*words):
                 drop_lines(it, int(sealing.split(" ")[1]))
             same(it.say(f"REFRESH {more[taken.index('closed')]}").split(" ")[0], "TAKEN")
         same(it.say_all([f"START 65536 foobot http://{first}/x", "DONE 65536"]), ["GO 65536 norule", "DONE 65536"])
+        same(it.say(f"ASK foobot http://{more[0]}/x").split(" ")[0], "PERMIT")
         with Session(server) as other:
-            same(other.say(f"ASK foobot http://{more[0]}/x").split(" ")[0], "PERMIT")
+            # (a worker that has done nothing before may have no memory for its first lines: they are answered so)
+            told = other.say(f"ASK foobot http://{more[0]}/x")
+            assert told == "ERR memory" or told.startswith("PERMIT "), told
+            same(other.say("QUIT"), "BYE")
         server.stop()
         assert audit(server.text()).startswith("OK events "), audit(server.text())
 

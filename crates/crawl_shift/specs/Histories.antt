@@ -1,6 +1,6 @@
 -- A shift's history as a text, by its workers' receipts.
 -- The contract of `Shift::history`; see docs/FORMATS.md.
-use Rattle.std.specs.Prelude.{◌≡◌, ℕ, List, Option}
+use Rattle.std.specs.Prelude.{◌≡◌, ℕ, List, [], Option}
 use Rattle.std.specs.Io.KnownBytes.{Appends}
 use Rattle.gate_core.specs.Gate.{Gate, HasLegalHistory}
 use Rattle.gate_marks.specs.Marks.{Receipt}
@@ -27,7 +27,7 @@ pub record WritesReceipts (receipts : List Receipt) (old new : Option (List ℕ)
 -- a shift of these workers did the jobs, and its receipts' history was written
 pub record WritesJobs (world : World) (workers : ℕ) (jobs : List Job) (old new : Option (List ℕ)) : Type 0 where
   pub report : ReportView
-  pub shift : IsShift world jobs workers report
+  pub shift : IsShift world jobs workers [] report
   pub wrote : WritesReceipts report.receipts old new
 
 -- a shift of these workers did the input's jobs, and its receipts' history was written
@@ -35,5 +35,5 @@ pub record WritesShift (world : World) (workers : ℕ) (input left old new : Opt
   pub jobs : List Job
   pub report : ReportView
   pub read : AreAllJobs world.schemes input left jobs
-  pub shift : IsShift world jobs workers report
+  pub shift : IsShift world jobs workers [] report
   pub wrote : WritesReceipts report.receipts old new

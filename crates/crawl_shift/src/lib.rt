@@ -9,7 +9,6 @@ mod flushing;
 mod hop_row;
 mod job_lines;
 mod job_list;
-mod later;
 mod not_shifted;
 mod progress;
 mod report_text;

@@ -15,7 +15,7 @@ use crate::status_line::StatusLine;
 use crate::table::Table;
 use counted_io::{Output, Sink, Source};
 use crawl_job::Job;
-use crawl_workers::{Clock, Fetcher, Report, ShiftFault, Watcher, run_shift_paced};
+use crawl_workers::{Clock, Fetcher, Report, ShiftCrew, ShiftFault, Watcher};
 use gate_lock::{Gate, GateLock, Held, Receipts};
 use gate_settlement::{SettleFault, settle_in};
 use history_text::export;
@@ -56,24 +56,28 @@ impl<
         requires { IsCrew self.now.workers }
     {
         let jobs = read_jobs_among(self.alloc, self.fetcher.schemes(), reader)?;
-        self.report_jobs(jobs.as_slice(), writer, gate, &())
+        self.report_jobs(jobs.as_slice(), writer, gate, Vec::new(self.alloc), &())
     }
 
-    /// Does these jobs over the gate, and writes the report; the watcher gets their events too. After a
-    /// failed write of the report nothing more is fetched.
+    /// Does these jobs over a gate with these receipts of earlier entries, and writes the report, with the
+    /// starts of its own jobs; the watcher gets their events too. After a failed write of the report nothing
+    /// more is fetched.
     pub fn report_jobs<G: Gate + Send + Sync, W: Sink + Send, V: Watcher + Sync>(
         &self,
         jobs: &[Job],
         writer: &mut W,
         gate: &GateLock<G>,
+        past: Vec<Receipts<G>>,
         watcher: &V,
     ) -> Result<(), NotShifted>
         requires jobs { length jobs.now ≤ max_jobs }
         requires workers { IsCrew self.now.workers }
     {
+        let before = starts_of(past.as_slice());
         let progress = Progress::new(self.rt, self.alloc, writer, self.fetcher, jobs.len())?;
-        let report = self.run_flushed(jobs, gate, &progress, watcher)?;
-        progress.finish(report.outcomes.as_slice(), report.settled.starts)?;
+        let report = self.run_flushed(jobs, gate, past, &progress, watcher)?;
+        let starts = report.settled.starts().saturating_sub(before);
+        progress.finish(report.outcomes.as_slice(), starts)?;
         Ok(())
     }
 
@@ -88,21 +92,22 @@ impl<
         requires { IsCrew self.now.workers }
     {
         let jobs = read_jobs_among(self.alloc, self.fetcher.schemes(), reader)?;
-        self.table_jobs(jobs.as_slice(), writer, gate)
+        self.table_jobs(jobs.as_slice(), writer, gate, Vec::new(self.alloc))
     }
 
-    /// Does these jobs over the gate, and writes the table.
+    /// Does these jobs over a gate with these receipts of earlier entries, and writes the table.
     pub fn table_jobs<G: Gate + Send + Sync, W: Sink + Send>(
         &self,
         jobs: &[Job],
         writer: &mut W,
         gate: &GateLock<G>,
+        past: Vec<Receipts<G>>,
     ) -> Result<(), NotShifted>
         requires jobs { length jobs.now ≤ max_jobs }
         requires workers { IsCrew self.now.workers }
     {
         let table = Table::new(self.rt, self.alloc, writer, self.fetcher)?;
-        self.run_flushed(jobs, gate, &table, &())?;
+        self.run_flushed(jobs, gate, past, &table, &())?;
         table.finish()?;
         Ok(())
     }
@@ -141,7 +146,7 @@ impl<
             self.now.workers jobs.now (W.written writer.old) (W.written writer.new)) }
     {
         let mut output = Output::new(self.alloc)?;
-        let report = self.run_told(jobs, gate, watcher)?;
+        let report = self.run_told(jobs, gate, Vec::new(self.alloc), watcher)?;
         let held = gate.lend(self.rt);
         write_receipts(self.alloc, &held, &report.receipts, &mut output, writer)
     }
@@ -152,13 +157,14 @@ impl<
         &self,
         jobs: &[Job],
         gate: &GateLock<G>,
+        past: Vec<Receipts<G>>,
         first: &A,
         second: &B,
     ) -> Result<Report<G>, ShiftFault> {
         let work = ShiftWork::not_begun();
         let (report, ()) = thread::join(
             self.rt,
-            || self.run_to_end(jobs, gate, first, second, &work),
+            || self.run_to_end(jobs, gate, past, first, second, &work),
             || flush_in_time(self.rt, first, &work),
         );
         report
@@ -170,13 +176,14 @@ impl<
         &self,
         jobs: &[Job],
         gate: &GateLock<G>,
+        past: Vec<Receipts<G>>,
         first: &A,
         second: &B,
         work: &ShiftWork,
     ) -> Result<Report<G>, ShiftFault> {
         work.begin(self.rt);
         let report = if jobs.len() as u64 <= MAX_JOBS && is_crew(self.workers) {
-            self.run_both(jobs, gate, first, second)
+            self.run_both(jobs, gate, past, first, second)
         } else {
             Err(ShiftFault::DesksFull)
         };
@@ -189,6 +196,7 @@ impl<
         &self,
         jobs: &[Job],
         gate: &GateLock<G>,
+        past: Vec<Receipts<G>>,
         first: &A,
         second: &B,
     ) -> Result<Report<G>, ShiftFault>
@@ -196,10 +204,10 @@ impl<
         requires workers { IsCrew self.now.workers }
         ensures { IfOk result (IsShift
             (world_of (F.gives self.now.fetcher.now) (F.follows self.now.fetcher.now) (C.reads self.now.clock.now))
-            jobs.now self.now.workers) }
+            jobs.now self.now.workers past.items) }
     {
         let both = Both { first, second };
-        self.run_told(jobs, gate, &both)
+        self.run_told(jobs, gate, past, &both)
     }
 
     // Does the jobs for the watcher and the status line.
@@ -207,13 +215,14 @@ impl<
         &self,
         jobs: &[Job],
         gate: &GateLock<G>,
+        past: Vec<Receipts<G>>,
         watcher: &V,
     ) -> Result<Report<G>, ShiftFault>
         requires jobs { length jobs.now ≤ max_jobs }
         requires workers { IsCrew self.now.workers }
         ensures { IfOk result (IsShift
             (world_of (F.gives self.now.fetcher.now) (F.follows self.now.fetcher.now) (C.reads self.now.clock.now))
-            jobs.now self.now.workers) }
+            jobs.now self.now.workers past.items) }
     {
         self.status.expect(jobs.len() as u64);
         let both = Both {
@@ -229,7 +238,16 @@ impl<
             clock,
             ..
         } = *self;
-        let report = run_shift_paced(rt, alloc, jobs, workers, delay, gate, fetcher, clock, &both);
+        let crew = ShiftCrew {
+            rt,
+            alloc,
+            workers,
+            delay,
+            fetcher,
+            clock,
+            watcher: &both,
+        };
+        let report = crew.run(jobs, gate, past);
         self.status.erase();
         report
     }
@@ -240,6 +258,15 @@ pub(crate) fn is_crew(workers: u64) -> bool
     ensures { IsTrue result → IsCrew workers }
 {
     1 <= workers && workers <= MAX_WORKERS
+}
+
+// How many fetches were started, by these receipts.
+fn starts_of<G: Gate>(receipts: &[Receipts<G>]) -> u64 {
+    let mut starts: u64 = 0;
+    for one in receipts {
+        starts = starts.saturating_add(one.starts());
+    }
+    starts
 }
 
 // Writes the locked gate's history, if the receipts are all of it.

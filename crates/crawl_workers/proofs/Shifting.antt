@@ -1,18 +1,18 @@
 -- What all workers drew and did, once they have ended.
--- Used by `do_jobs`, `run_shift` and `run_later_shift`.
+-- Used by `do_jobs` and `run` of `ShiftCrew`.
 use Rattle.std.proofs.Common.{◌≡◌, ◌∙◌, ℕ, ◌+◌, ◌≤◌, List, [], ◌∷◌, ◌++◌, length, take, ap, sym, refl, subst, arith}
 use Rattle.std.specs.Prelude.{Ok}
 use Rattle.std.specs.List.{AllZip}
 use Rattle.std.proofs.lemmas.List.{take-append-le, take_all}
 use Rattle.gate_marks.specs.Marks.{Receipt, SealedView, handed_at_all, starts_of_all}
 use Rattle.gate_settlement.specs.Settling.{IsWholeUnlessSealed, SettlesSome}
-use Rattle.gate_settlement.specs.declared.settlement.Settled.{Settled}
+use Rattle.gate_lock.specs.Resting.{Totals}
 use Rattle.job_line.specs.Sums.{weigh_all, weigh_below}
 use Rattle.crawl_workers.specs.declared.crew.Done.{Done}
 use Rattle.crawl_job.specs.declared.job.Job.{Job}
 use Rattle.crawl_workers.specs.declared.report.Crawled.{Crawled}
 use Rattle.crawl_workers.specs.Crews.{AllPlaced, EachHasDone, all_numbers, one_below, one_at_number}
-use Rattle.crawl_workers.specs.Shifts.{AreAllJobs, DoneView, IsLaterShift, IsShift, Worked, all_fetches}
+use Rattle.crawl_workers.specs.Shifts.{AreAllJobs, DoneView, IsShift, Worked, all_fetches}
 use Rattle.page_worker.specs.World.{World}
 use Rattle.crawl_workers.proofs.Placing.{weigh_below-one_for}
 use Rattle.crawl_workers.proofs.StartTotals.{starts_are_fetches}
@@ -69,34 +69,29 @@ all_jobs world jobs workers drawn lists receipts outcomes placed many each did s
 starts_of_done : (world : World) (jobs : List Job) (workers : ℕ) (d : DoneView) → AreAllJobs world jobs workers d → starts_of_all d.receipts ≡ all_fetches d.outcomes
 starts_of_done world jobs workers d done = starts_are_fetches world jobs d.outcomes d.drawn d.receipts done.worked done.each_once done.one_each
 
-pub is_shift : (world : World) (jobs : List Job) (workers : ℕ) (d : DoneView) (lent : List Receipt) (settled : Settled)
-    → AreAllJobs world jobs workers d → lent ≡ d.receipts → SettlesSome lent (Ok settled) → IsWholeUnlessSealed lent settled → settled.starts ≡ starts_of_all lent
-    → IsShift world jobs workers (record { outcomes = d.outcomes; drawn = d.drawn; receipts = d.receipts; settled = settled })
-is_shift world jobs workers d lent settled done lent_is settles whole starts = record {
-  one_each = done.one_each;
-  all_workers = done.all_workers;
-  each_once = done.each_once;
-  worked = done.worked;
-  settled = subst (λ (rs : List Receipt). SettlesSome rs (Ok settled)) lent_is settles;
-  whole = subst (λ (rs : List Receipt). IsWholeUnlessSealed rs settled) lent_is whole (none_handed world jobs d.outcomes d.drawn d.receipts done.worked);
-  starts = starts ∙ ap starts_of_all lent_is ∙ starts_of_done world jobs workers d done;
-}
-
 starts_with : (rs past : List Receipt) → starts_of_all (rs ++ past) ≡ starts_of_all rs + starts_of_all past
 starts_with [] past = omega arith
 starts_with (r ∷ rs) past = let e = starts_with rs past in omega (arith, e)
 
-pub is_later_shift : (world : World) (jobs : List Job) (workers : ℕ) (past : List Receipt) (d : DoneView) (all lent : List Receipt) (settled : Settled)
-    → AreAllJobs world jobs workers d → all ≡ d.receipts ++ past → lent ≡ all → SettlesSome lent (Ok settled) → settled.starts ≡ starts_of_all lent
-    → IsLaterShift world jobs workers past (record { outcomes = d.outcomes; drawn = d.drawn; receipts = all; settled = settled })
-is_later_shift world jobs workers past d all lent settled done all_are lent_is settles starts =
+handed_with : (rs past : List Receipt) → handed_at_all (rs ++ past) ≡ handed_at_all rs + handed_at_all past
+handed_with [] past = omega arith
+handed_with (r ∷ rs) past = let e = handed_with rs past in omega (arith, e)
+
+pub is_shift : (world : World) (jobs : List Job) (workers : ℕ) (past : List Receipt) (d : DoneView) (all lent : List Receipt) (settled : Totals)
+    → AreAllJobs world jobs workers d → all ≡ d.receipts ++ past → lent ≡ all → SettlesSome lent (Ok settled) → IsWholeUnlessSealed lent settled
+    → settled.starts ≡ starts_of_all lent
+    → IsShift world jobs workers past (record { outcomes = d.outcomes; drawn = d.drawn; receipts = all; settled = settled })
+is_shift world jobs workers past d all lent settled done all_are lent_is settles whole starts =
     let a = starts ∙ ap starts_of_all (lent_is ∙ all_are) in
     let b = starts_with d.receipts past in
     let c = starts_of_done world jobs workers d done in
+    let handed = ap handed_at_all all_are ∙ handed_with d.receipts past in
+    let own = none_handed world jobs d.outcomes d.drawn d.receipts done.worked in
     record {
       own = d.receipts;
       receipts_are = all_are;
       done = done;
       settled = subst (λ (rs : List Receipt). SettlesSome rs (Ok settled)) lent_is settles;
+      whole = λ none. subst (λ (rs : List Receipt). IsWholeUnlessSealed rs settled) lent_is whole (omega (arith, handed, own, none));
       starts = omega (arith, a, b, c);
     }

@@ -5,8 +5,8 @@ use Rattle.std.specs.Prelude.{◌≡◌, ℕ, ◌+◌, ◌++◌, List, [], ◌�
 use Rattle.std.specs.List.{AllZip, slice_get}
 use Rattle.gate_settlement.specs.Settling.{IsWhole, SettlesSome}
 use Rattle.gate_history.specs.declared.entry.Entry.{Entry}
-use Rattle.gate_marks.specs.Marks.{Receipt, nothing_sealed, starts_of_all}
-use Rattle.gate_settlement.specs.declared.settlement.Settled.{Settled}
+use Rattle.gate_marks.specs.Marks.{Receipt, handed_at_all, nothing_sealed, starts_of_all}
+use Rattle.gate_lock.specs.Resting.{Totals}
 use Rattle.job_line.specs.Sums.{weigh_all, weigh_below}
 use Rattle.crawl_workers.specs.declared.crew.Done.{Done}
 use Rattle.crawl_job.specs.declared.job.Job.{Job}
@@ -79,25 +79,16 @@ pub record ReportView : Type 0 where
   pub outcomes : List Crawled
   pub drawn : List (List ℕ)
   pub receipts : List Receipt
-  pub settled : Settled
+  pub settled : Totals
 
--- a shift's report: the workers drew each number once; each job has an outcome, which tells what a desk did; the
--- receipts settle the gate, and are a whole legal history with as many started fetches as the outcomes have
-pub record IsShift (world : World) (jobs : List Job) (workers : ℕ) (report : ReportView) : Type 0 where
-  pub one_each : length report.outcomes ≡ length jobs
-  pub all_workers : length report.drawn ≡ workers
-  pub each_once : (weight : ℕ → ℕ) → weigh_all weight report.drawn ≡ weigh_below weight (length jobs)
-  pub worked : AllZip (Worked world jobs report.outcomes) report.drawn report.receipts
-  pub settled : SettlesSome report.receipts (Ok report.settled)
-  pub whole : IsWhole report.receipts report.settled
-  pub starts : report.settled.starts ≡ all_fetches report.outcomes
-
--- a shift's report over a gate that continues from a base: all jobs are done; the workers' receipts and the earlier
--- ones, which come last, settle the gate, with as many more started fetches as the outcomes have
-pub record IsLaterShift (world : World) (jobs : List Job) (workers : ℕ) (past : List Receipt)
+-- a shift's report over a gate with earlier receipts: all jobs are done; the workers' receipts and the earlier ones,
+-- which come last, settle the gate, with as many more started fetches as the outcomes have; and they are a whole legal
+-- history if the earlier ones handed nothing out
+pub record IsShift (world : World) (jobs : List Job) (workers : ℕ) (past : List Receipt)
     (report : ReportView) : Type 0 where
   pub own : List Receipt
   pub receipts_are : report.receipts ≡ own ++ past
   pub done : AreAllJobs world jobs workers (record { outcomes = report.outcomes; drawn = report.drawn; receipts = own })
   pub settled : SettlesSome report.receipts (Ok report.settled)
+  pub whole : handed_at_all past ≡ 0 → IsWhole report.receipts report.settled
   pub starts : report.settled.starts ≡ all_fetches report.outcomes + starts_of_all past

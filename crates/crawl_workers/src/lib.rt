@@ -20,4 +20,4 @@ pub use fetchers::{Fetcher, PageLeave, RobotsLeave, TcpFetcher};
 pub use http_client::{Deadline, Failure, TimeLimits};
 pub use page_worker::{Clock, ClosedBy, Event, refresh, work};
 pub use report::{Crawled, Report, ShiftFault, Watcher};
-pub use shift::{run_later_shift, run_shift, run_shift_paced};
+pub use shift::{ShiftCrew, run_shift};

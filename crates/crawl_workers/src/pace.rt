@@ -29,28 +29,7 @@ pub(crate) trait Pace {
     ) -> MutexGuard<'b, T>;
 }
 
-/// No pauses.
-impl Pace for () {
-    fn delay(&self) -> Duration {
-        Duration::ZERO
-    }
-
-    fn now(&self) -> Option<Instant> {
-        None
-    }
-
-    fn sleep(&self, _time: Duration) {}
-
-    fn wait<'b, T>(
-        &self,
-        _told: &Condvar,
-        guard: MutexGuard<'b, T>,
-        _most: Duration,
-    ) -> MutexGuard<'b, T> {
-        guard
-    }
-}
-
+/// Pauses by the steady clock.
 #[derive(Drop)]
 pub(crate) struct Pauses<'a, R: Wait + time::Clock> {
     pub(crate) rt: &'a R,

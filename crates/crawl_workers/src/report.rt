@@ -24,7 +24,7 @@ pub struct Report<G: Gate> {
     /// The receipts of each worker's desk, in the same order.
     pub receipts: Vec<Receipts<G>>,
     /// The gate, settled by these receipts.
-    pub settled: Settled,
+    pub settled: Settled<G>,
 }
 
 impl<G: Gate> Model for Report<G> {

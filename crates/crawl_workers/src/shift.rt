@@ -1,11 +1,11 @@
 //! A shift: several workers, each on its own thread, do the jobs of a list over one gate.
 //! RFC 9309, sections 2.2 to 2.4, in the profile of docs/POLICY.md.
-ghost use Rattle.std.specs.Prelude.{◌≡◌, ◌≤◌, All, IfOk, length, vec_len};
+ghost use Rattle.std.specs.Prelude.{◌≡◌, ◌≤◌, [], All, IfOk, length, vec_len};
 ghost use Rattle.desk_pool.specs.Pools.{ReturnEach};
 ghost use Rattle.job_line.specs.Covers.{IsNew, parts_of};
-ghost use Rattle.job_line.specs.Limits.{max_jobs, max_workers};
+ghost use Rattle.job_line.specs.Limits.{IsCrew, max_jobs, max_workers};
 ghost use Rattle.crawl_workers.specs.Crews.{AreAllDone, Ends};
-ghost use Rattle.crawl_workers.specs.Shifts.{AreAllJobs, IsLaterShift, IsShift};
+ghost use Rattle.crawl_workers.specs.Shifts.{AreAllJobs, IsShift};
 ghost use Rattle.page_worker.specs.World.{world_of};
 
 use crate::crew::{Crew, Work};
@@ -29,157 +29,161 @@ use std::thread::Threads;
 use std::time;
 use std::time::Duration;
 
-/// Does all jobs over a gate that has made no entry, by 1 to 16 workers, and settles the gate. Each worker
-/// has its own thread, and one is the caller's; if a thread can't be had, its worker works before or after
-/// another on that one's thread. `watcher` gets each job as soon as it is done.
-///
-/// Workers draw from the sites in turn. While a site's robots.txt is fetched, no other worker draws its
-/// jobs. At most as many workers as a site has places do its jobs at once, and one less than all while
-/// other sites have jobs. The report keeps the order of the jobs.
-///
-/// A worker's fault is returned before one of settling. After a fault the shift has nothing outstanding,
-/// but its receipts are lost: a gate in which it made an entry can't be settled any more.
+/// Does all jobs over a gate that has made no entry, by 1 to 16 workers without pauses, and settles the
+/// gate: `ShiftCrew::run` without earlier receipts.
 pub fn run_shift<
     G: Gate + Send + Sync,
     F: Fetcher + Sync,
     C: Clock + Sync,
     W: Watcher + Sync,
-    R: Threads + Wait + Sync,
->(
-    rt: &R,
-    alloc: Global,
-    jobs: &[Job],
-    workers: u64,
-    gate: &GateLock<G>,
-    fetcher: &F,
-    clock: &C,
-    watcher: &W,
-) -> Result<Report<G>, ShiftFault>
-    requires jobs { length jobs.now ≤ max_jobs }
-    requires workers { (1 ≤ workers) × (workers ≤ max_workers) }
-    ensures { IfOk result
-        (IsShift (world_of (F.gives fetcher.now) (F.follows fetcher.now) (C.reads clock.now))
-        jobs.now workers) }
-{
-    run_at_pace(rt, alloc, jobs, workers, &(), gate, fetcher, clock, watcher)
-}
-
-/// `run_shift` with pauses: each fetch of a page begins no sooner than the delay after the begin of the
-/// fetch before it at the same site, be that a page, a robots.txt or a redirect's target. Robots.txt files
-/// don't wait. While a site rests, workers draw jobs of others. A delay of zero means no pauses.
-pub fn run_shift_paced<
-    G: Gate + Send + Sync,
-    F: Fetcher + Sync,
-    C: Clock + Sync,
-    W: Watcher + Sync,
     R: Threads + Wait + time::Clock + Sync,
 >(
     rt: &R,
     alloc: Global,
     jobs: &[Job],
     workers: u64,
-    delay: Duration,
     gate: &GateLock<G>,
     fetcher: &F,
     clock: &C,
     watcher: &W,
 ) -> Result<Report<G>, ShiftFault>
     requires jobs { length jobs.now ≤ max_jobs }
-    requires workers { (1 ≤ workers) × (workers ≤ max_workers) }
+    requires workers { IsCrew workers }
     ensures { IfOk result
         (IsShift (world_of (F.gives fetcher.now) (F.follows fetcher.now) (C.reads clock.now))
-        jobs.now workers) }
+        jobs.now workers []) }
 {
-    let pauses = Pauses { rt, delay };
-    run_at_pace(
-        rt, alloc, jobs, workers, &pauses, gate, fetcher, clock, watcher,
-    )
+    let crew = ShiftCrew {
+        rt,
+        alloc,
+        workers,
+        delay: Duration::ZERO,
+        fetcher,
+        clock,
+        watcher,
+    };
+    crew.run(jobs, gate, Vec::new(alloc))
 }
 
-/// `run_shift_paced` over a gate that continues from a base. The receipts of earlier work are needed to
-/// settle it; they come last in the report, which includes their started fetches.
-pub fn run_later_shift<
-    G: Gate + Send + Sync,
+/// Who does the jobs of a shift: so many workers, from 1 to 16, who fetch with `fetcher` by `clock`.
+/// `watcher` gets each job as soon as it is done.
+///
+/// Each fetch of a page begins no sooner than the delay after the begin of the fetch before it at the same
+/// site, be that a page, a robots.txt or a redirect's target. Robots.txt files don't wait. While a site
+/// rests, workers draw jobs of others. A delay of zero means no pauses.
+#[derive(Drop)]
+pub struct ShiftCrew<'a, F, C, W, R> {
+    pub rt: &'a R,
+    pub alloc: Global,
+    pub workers: u64,
+    pub delay: Duration,
+    pub fetcher: &'a F,
+    pub clock: &'a C,
+    pub watcher: &'a W,
+}
+
+impl<
     F: Fetcher + Sync,
     C: Clock + Sync,
     W: Watcher + Sync,
     R: Threads + Wait + time::Clock + Sync,
->(
-    rt: &R,
-    alloc: Global,
-    jobs: &[Job],
-    workers: u64,
-    delay: Duration,
-    gate: &GateLock<G>,
-    past: Vec<Receipts<G>>,
-    fetcher: &F,
-    clock: &C,
-    watcher: &W,
-) -> Result<Report<G>, ShiftFault>
-    requires jobs { length jobs.now ≤ max_jobs }
-    requires workers { (1 ≤ workers) × (workers ≤ max_workers) }
-    ensures { IfOk result
-        (IsLaterShift (world_of (F.gives fetcher.now) (F.follows fetcher.now) (C.reads clock.now))
-        jobs.now workers past.items) }
-{
-    let pauses = Pauses { rt, delay };
-    let AllDone {
-        outcomes,
-        drawn,
-        mut receipts,
-    } = do_jobs(
-        rt, alloc, jobs, workers, &pauses, gate, fetcher, clock, watcher,
-    )?;
-    let mut past = past;
-    receipts.append(&mut past)?;
-    let settled = settle(rt, alloc, gate, &receipts)?;
-    Ok(Report {
-        outcomes,
-        drawn,
-        receipts,
-        settled,
-    })
-}
+> ShiftCrew<'_, F, C, W, R> {
+    /// Does all jobs over a gate whose earlier entries have these receipts, and settles the gate by them and
+    /// its own, which come first in the report. Each worker has its own thread, and one is the caller's; if a
+    /// thread can't be had, its worker works before or after another on that one's thread.
+    ///
+    /// Workers draw from the sites in turn. While a site's robots.txt is fetched, no other worker draws its
+    /// jobs. At most as many workers as a site has places do its jobs at once, and one less than all while
+    /// other sites have jobs. The report keeps the order of the jobs, and its number of started fetches
+    /// includes the earlier ones.
+    ///
+    /// A worker's fault is returned before one of settling. After a fault the shift has nothing outstanding,
+    /// but its receipts are lost: a gate in which it made an entry can't be settled any more.
+    pub fn run<G: Gate + Send + Sync>(
+        &self,
+        jobs: &[Job],
+        gate: &GateLock<G>,
+        past: Vec<Receipts<G>>,
+    ) -> Result<Report<G>, ShiftFault>
+        requires jobs { length jobs.now ≤ max_jobs }
+        requires workers { IsCrew self.now.workers }
+        ensures { IfOk result (IsShift
+            (world_of (F.gives self.now.fetcher.now) (F.follows self.now.fetcher.now) (C.reads self.now.clock.now))
+            jobs.now self.now.workers past.items) }
+    {
+        let AllDone {
+            outcomes,
+            drawn,
+            mut receipts,
+        } = self.do_jobs(jobs, gate)?;
+        let mut past = past;
+        receipts.append(&mut past)?;
+        let settled = settle(self.rt, self.alloc, gate, &receipts)?;
+        Ok(Report {
+            outcomes,
+            drawn,
+            receipts,
+            settled,
+        })
+    }
 
-// `run_shift` at this pace.
-fn run_at_pace<
-    G: Gate + Send + Sync,
-    F: Fetcher + Sync,
-    C: Clock + Sync,
-    W: Watcher + Sync,
-    P: Pace + Sync,
-    R: Threads + Wait + Sync,
->(
-    rt: &R,
-    alloc: Global,
-    jobs: &[Job],
-    workers: u64,
-    pace: &P,
-    gate: &GateLock<G>,
-    fetcher: &F,
-    clock: &C,
-    watcher: &W,
-) -> Result<Report<G>, ShiftFault>
-    requires jobs { length jobs.now ≤ max_jobs }
-    requires workers { (1 ≤ workers) × (workers ≤ max_workers) }
-    ensures { IfOk result
-        (IsShift (world_of (F.gives fetcher.now) (F.follows fetcher.now) (C.reads clock.now))
-        jobs.now workers) }
-{
-    let AllDone {
-        outcomes,
-        drawn,
-        receipts,
-    } = do_jobs(
-        rt, alloc, jobs, workers, pace, gate, fetcher, clock, watcher,
-    )?;
-    let settled = settle(rt, alloc, gate, &receipts)?;
-    Ok(Report {
-        outcomes,
-        drawn,
-        receipts,
-        settled,
-    })
+    // Does all jobs, before the gate is settled.
+    fn do_jobs<G: Gate + Send + Sync>(
+        &self,
+        jobs: &[Job],
+        gate: &GateLock<G>,
+    ) -> Result<AllDone<G>, ShiftFault>
+        requires jobs { length jobs.now ≤ max_jobs }
+        requires workers { IsCrew self.now.workers }
+        ensures { IfOk result (AreAllJobs
+            (world_of (F.gives self.now.fetcher.now) (F.follows self.now.fetcher.now) (C.reads self.now.clock.now))
+            jobs.now self.now.workers) }
+    {
+        let ShiftCrew {
+            rt,
+            alloc,
+            workers,
+            delay,
+            fetcher,
+            clock,
+            watcher,
+        } = *self;
+        let mut outcomes = no_outcomes(alloc, jobs.len())?;
+        let Order {
+            names,
+            counts,
+            numbers,
+        } = Order::of_jobs(alloc, jobs)?;
+        let places = gate.lend(rt).book().limits().places;
+        let sites = ShiftSites::new(alloc, names, &counts, workers, places, delay)?;
+        let (line, seats) = JobLine::of_sites(alloc, &counts, workers)?;
+        let crew = Crew {
+            jobs,
+            line: &line,
+            order: &numbers,
+            counts: &counts,
+            sites: &sites,
+            fetcher,
+            clock,
+            watcher,
+            pace: &Pauses { rt, delay },
+        };
+        let handover = crew.do_all(rt, alloc, gate, seats)?;
+        let Handover {
+            seats,
+            drawn,
+            done,
+            receipts,
+        } = handover;
+        // A single worker has found the end of each site, so all seats together drew each job once.
+        line.gather(seats);
+        place_all(&mut outcomes, done);
+        Ok(AllDone {
+            outcomes,
+            drawn,
+            receipts,
+        })
+    }
 }
 
 // The results of all jobs, before the gate is settled.
@@ -201,67 +205,6 @@ impl<G: Gate> Model for AllDone<G> {
       drawn = map (λ numbers. numbers.items) done.drawn.items;
       receipts = done.receipts.items;
     } };
-}
-
-fn do_jobs<
-    G: Gate + Send + Sync,
-    F: Fetcher + Sync,
-    C: Clock + Sync,
-    W: Watcher + Sync,
-    P: Pace + Sync,
-    R: Threads + Wait + Sync,
->(
-    rt: &R,
-    alloc: Global,
-    jobs: &[Job],
-    workers: u64,
-    pace: &P,
-    gate: &GateLock<G>,
-    fetcher: &F,
-    clock: &C,
-    watcher: &W,
-) -> Result<AllDone<G>, ShiftFault>
-    requires jobs { length jobs.now ≤ max_jobs }
-    requires workers { (1 ≤ workers) × (workers ≤ max_workers) }
-    ensures { IfOk result
-        (AreAllJobs (world_of (F.gives fetcher.now) (F.follows fetcher.now) (C.reads clock.now))
-        jobs.now workers) }
-{
-    let mut outcomes = no_outcomes(alloc, jobs.len())?;
-    let Order {
-        names,
-        counts,
-        numbers,
-    } = Order::of_jobs(alloc, jobs)?;
-    let places = gate.lend(rt).book().limits().places;
-    let sites = ShiftSites::new(alloc, names, &counts, workers, places, pace.delay())?;
-    let (line, seats) = JobLine::of_sites(alloc, &counts, workers)?;
-    let crew = Crew {
-        jobs,
-        line: &line,
-        order: &numbers,
-        counts: &counts,
-        sites: &sites,
-        fetcher,
-        clock,
-        watcher,
-        pace,
-    };
-    let handover = crew.do_all(rt, alloc, gate, seats)?;
-    let Handover {
-        seats,
-        drawn,
-        done,
-        receipts,
-    } = handover;
-    // A single worker has found the end of each site, so all seats together drew each job once.
-    line.gather(seats);
-    place_all(&mut outcomes, done);
-    Ok(AllDone {
-        outcomes,
-        drawn,
-        receipts,
-    })
 }
 
 // This many outcomes without hops.

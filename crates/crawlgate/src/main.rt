@@ -143,11 +143,7 @@ fn shift_jobs<
         status,
     };
     let jobs = lines.jobs.as_slice();
-    let ending = match journal {
-        Some(journal) => shift_recorded(host, &shift, jobs, &gate, past, journal, options.told),
-        None => do_jobs(host, &shift, jobs, &gate, options.told),
-    };
-    match ending {
+    match shift_recorded(host, &shift, jobs, &gate, past, journal, options.told) {
         // Skipped lines were reported already.
         Ending::Done if !lines.bad.is_empty() => Ok(Ending::BadLine),
         ending => Ok(ending),
@@ -184,36 +180,6 @@ fn read_jobs<F: Fetcher>(
 fn tell_lines(host: &HostRuntime, lines: &[BadJobLine]) {
     let mut errors = Counted::new(host.stderr());
     let _ = tell_bad_lines(host.alloc(), lines, &mut errors);
-}
-
-// Does these jobs, and writes the output to standard output; and unless that is a table, the closed sites
-// to standard error.
-fn do_jobs<
-    G: Gate + Send + Sync,
-    E: Sink + Send,
-    F: Fetcher + Sync,
-    C: Clock + Sync,
-    R: Threads + Wait + time::Clock + Sync,
->(
-    host: &HostRuntime,
-    shift: &Shift<'_, '_, E, F, C, R>,
-    jobs: &[Job],
-    gate: &GateLock<G>,
-    told: ShiftOutput,
-) -> Ending
-    requires jobs { length jobs.now ≤ max_jobs }
-    requires workers { IsCrew shift.now.workers }
-{
-    let mut writer = Counted::new(Reasoned::new(host.stdout()));
-    let closed = ClosedSites::new(shift.rt, host.alloc());
-    let end = match told {
-        ShiftOutput::Outcomes => shift.report_jobs(jobs, &mut writer, gate, &closed),
-        ShiftOutput::Table => shift.table_jobs(jobs, &mut writer, gate),
-        ShiftOutput::History => shift.history_jobs(jobs, &mut writer, gate, &closed),
-    };
-    // (a failing standard error does not change the status)
-    let _ = closed.tell(&mut Counted::new(host.stderr()));
-    tell_failed(host, shift_ending(end), Stream::Output, writer)
 }
 
 // The ending of a shift whose jobs were read.

@@ -1,5 +1,5 @@
-//! `crawlgate shift` with a journal: output and requests wait until all earlier entries are in the files.
-//! The shift continues from where these end.
+//! `crawlgate shift`: its jobs are done, and its output is written. With a journal output and requests wait
+//! until all earlier entries are in the files, and the shift continues from where these end.
 ghost use Rattle.std.specs.Prelude.{◌≤◌, length};
 ghost use Rattle.job_line.specs.Limits.{IsCrew, max_jobs};
 
@@ -12,7 +12,7 @@ use crawl_workers::{Clock, Fetcher};
 use gate_journal::Recording;
 use gate_lock::{Gate, GateLock, Receipts};
 use job_line::{MAX_JOBS, MAX_WORKERS};
-use journal_files::{Abreast, GroupJournal, Recorder};
+use journal_files::{Abreast, GroupJournal, Recorder, Unrecorded};
 use journal_keepers::FetchesBehind;
 use journal_tape::Behind;
 use keepers::{DeskKeeper, Keeper, NoKeeper};
@@ -31,7 +31,7 @@ const NAP_MILLISECONDS: u64 = 20;
 
 const SYNC_LOOKS: u64 = 50;
 
-/// Begins the journal, and does these jobs. Reports a failure of the journal.
+/// Begins the journal, if any, and does these jobs. Reports a failure of the journal.
 pub(crate) fn shift_recorded<
     G: Gate + Send + Sync,
     E: Sink + Send,
@@ -44,25 +44,39 @@ pub(crate) fn shift_recorded<
     jobs: &[Job],
     gate: &GateLock<G>,
     past: Past<G>,
-    journal: OpenJournal<'_>,
+    journal: Option<OpenJournal<'_>>,
     told: ShiftOutput,
 ) -> Ending {
+    let chronicle = Recording {
+        alloc: shift.alloc,
+        rt: shift.rt,
+        shared: gate.shared(),
+    };
+    let Some(journal) = journal else {
+        let unrecorded = RecordedShift {
+            gate,
+            chronicle: &chronicle,
+            journal: &Unrecorded,
+        };
+        return unrecorded.do_some(host, shift, jobs, past, told);
+    };
     let OpenJournal {
         name,
         folder,
         sync,
         room,
     } = journal;
-    let chronicle = Recording {
-        alloc: shift.alloc,
-        rt: shift.rt,
-        gate,
-    };
     match GroupJournal::begin(shift.alloc, &chronicle, folder, sync, room) {
         Ok(journal) => {
             let recorded = RecordedShift {
+                gate,
                 chronicle: &chronicle,
                 journal: &journal,
+            };
+            // (no history is written beside the journal, which has it)
+            let told = match told {
+                ShiftOutput::History => ShiftOutput::Outcomes,
+                told => told,
             };
             let ending = recorded.work(host, shift, jobs, past, told);
             match journal.fault(shift.rt) {
@@ -74,9 +88,10 @@ pub(crate) fn shift_recorded<
     }
 }
 
-// A gate and its journal.
+// A gate and its journal, which may be none.
 #[derive(Clone, Copy)]
 struct RecordedShift<'r, 'a, G: Gate, J: Recorder, R: Wait> {
+    gate: &'a GateLock<G>,
     chronicle: &'r Recording<'a, G, R>,
     journal: &'r J,
 }
@@ -192,11 +207,11 @@ impl<
         requires jobs { length jobs.now ≤ max_jobs }
         requires workers { IsCrew shift.now.workers }
     {
-        let gate = self.chronicle.gate;
+        let gate = self.gate;
         let output = Counted::new(Reasoned::new(host.stdout()));
         let mut writer = Behind::new(self.abreast(), output);
         let closed = ClosedSites::new(shift.rt, shift.alloc);
-        let end = write_later(shift, jobs, &mut writer, gate, past, told, &closed);
+        let end = write_told(shift, jobs, &mut writer, gate, past, told, &closed);
         // (a failing standard error does not change the status)
         let _ = closed.tell(&mut Counted::new(host.stderr()));
         tell_failed(host, shift_ending(end), Stream::Output, writer.into_sink())
@@ -229,7 +244,7 @@ impl<
         shift: &Shift<'_, '_, E, F, C, R>,
         sites: &[Authority],
     ) -> Result<Receipts<G>, NoKeeper> {
-        let gate = self.chronicle.gate;
+        let gate = self.gate;
         let mut keeper = DeskKeeper::open(shift.rt, shift.alloc, gate, shift.fetcher)?;
         for site in sites {
             // (without room in the history its old answer stays)
@@ -249,7 +264,7 @@ impl<
 }
 
 // Does the jobs, and writes the output to this sink.
-fn write_later<
+fn write_told<
     G: Gate + Send + Sync,
     W: Sink + Send,
     E: Sink + Send,
@@ -269,10 +284,8 @@ fn write_later<
     requires workers { IsCrew shift.now.workers }
 {
     match told {
-        ShiftOutput::Table => shift.table_later(jobs, writer, gate, past),
-        // (no history is written beside the journal, which has it)
-        ShiftOutput::Outcomes | ShiftOutput::History => {
-            shift.report_later(jobs, writer, gate, past, closed)
-        }
+        ShiftOutput::Table => shift.table_jobs(jobs, writer, gate, past),
+        ShiftOutput::Outcomes => shift.report_jobs(jobs, writer, gate, past, closed),
+        ShiftOutput::History => shift.history_jobs(jobs, writer, gate, closed),
     }
 }

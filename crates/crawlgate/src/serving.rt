@@ -259,7 +259,7 @@ fn run_recorded<
     let chronicle = Recording {
         alloc: server.alloc,
         rt: server.rt,
-        gate,
+        shared: gate.shared(),
     };
     match GroupJournal::begin(server.alloc, &chronicle, folder, sync, room) {
         Ok(journal) => {
@@ -303,13 +303,7 @@ fn run_behind<
 
 fn ending<G: Gate>(rt: &HostRuntime, end: Result<Served<G>, ServeFault>) -> Ending {
     match end {
-        Ok(
-            Served {
-                connections,
-                events,
-                receipts: _,
-            },
-        ) => tell_served(rt, connections, events),
+        Ok(served) => tell_served(rt, served.connections, served.settled.events()),
         Err(ServeFault::NoMemory | ServeFault::Unsettled(SettleFault::NoMemory)) => {
             Ending::NoMemory
         }

@@ -1,4 +1,4 @@
--- The limit of a robots.txt.
+-- The limits of a robots.txt, and of all that are kept.
 -- RFC 9309, section 2.5.
 use Rattle.std.specs.Prelude.{ℕ, ◌+◌}
 use Rattle.robots_text.specs.Lines.{text_limit}
@@ -6,3 +6,7 @@ use Rattle.robots_text.specs.Lines.{text_limit}
 -- the octets kept of a robots.txt, and one that shows that there are more
 abbrev pub robots_limit : ℕ
 robots_limit = text_limit + 1
+
+-- the most octets of robots texts that are kept where no bound is set
+abbrev pub no_bound : ℕ
+no_bound = 18446744073709551615

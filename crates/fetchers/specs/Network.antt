@@ -1,6 +1,6 @@
 -- The results of a network, and what contracts see of a TCP fetcher.
 -- `TcpFetcher` cites it.
-use Rattle.std.specs.Prelude.{ℕ, List, ◌++◌, Option, None, Some, IfSome, Result, Vec, codes}
+use Rattle.std.specs.Prelude.{◌≡◌, ℕ, List, [], ◌++◌, Option, None, Some, IfSome, Result, Vec, codes}
 use Rattle.std.specs.declared.alloc.Global.{Global}
 use Rattle.http_client.specs.Agent.{IsAgent}
 use Rattle.http_wire.specs.declared.fault.WireFault.{WireFault}
@@ -12,6 +12,7 @@ use Rattle.std.specs.declared.net.socket_addr.SocketAddr.{SocketAddr}
 use Rattle.http_client.specs.declared.address_block.AddressBlock.{AddressBlock}
 use Rattle.http_client.specs.declared.reach.Reach.{Reach}
 use Rattle.http_client.specs.declared.time_limits.TimeLimits.{TimeLimits}
+use Rattle.fetchers.specs.Limits.{no_bound}
 
 -- a fetcher: its agent for robots.txt files, the comment after agents of pages, if any, its time limits, its reach, the
 -- blocks that it doesn't connect to, the schemes of its pages, and the most octets of robots texts that it keeps
@@ -42,6 +43,19 @@ IsContact contact = IfSome contact IsAgent
 abbrev pub schemes_by : Option SocketAddr → Schemes
 schemes_by None = Http
 schemes_by (Some program) = HttpAndHttps
+
+-- a new fetcher: no comment, no block avoided, and no bound of robots texts
+abbrev pub IsFetcherOf : List ℕ → TimeLimits → Reach → Schemes → TcpView → Type 0
+IsFetcherOf agent limits reach schemes fetcher =
+    fetcher ≡ record {
+      agent = agent;
+      contact = None;
+      limits = limits;
+      reach = reach;
+      not_to = [];
+      schemes = schemes;
+      texts = no_bound;
+    }
 
 -- some octets as a response within the limit, for any URL
 abbrev pub GivesAny : ℕ → List ℕ → Result HttpReply WireFault → Type 0

@@ -5,8 +5,9 @@ ghost use Rattle.path_normal.specs.declared.schemes.Schemes.TheVariants.{Http};
 ghost use Rattle.http_wire.specs.Response.{Tells};
 ghost use Rattle.http_client.specs.Agent.{IsAgent};
 ghost use Rattle.http_client.specs.TimeLimits.{AreStandard};
+ghost use Rattle.http_client.specs.declared.reach.Reach.TheVariants.{Anywhere};
 ghost use Rattle.fetchers.specs.Limits.{robots_limit};
-ghost use Rattle.fetchers.specs.Network.{agent_with, schemes_by};
+ghost use Rattle.fetchers.specs.Network.{IsFetcherOf, agent_with, schemes_by};
 
 use crate::fetcher::{Fetcher, PageLeave, RobotsLeave};
 use crate::text_room::TextRoom;
@@ -61,9 +62,9 @@ impl<R: Net<Stream = TcpStream> + time::Clock> TcpFetcher<R> {
     where
         R: Drop,
         requires { IsAgent agent.now }
-        ensures agent { IfOk result (λ fetcher. fetcher.agent ≡ agent.now) }
         ensures limits { IfOk result (λ fetcher. AreStandard fetcher.limits) }
-        ensures schemes { IfOk result (λ fetcher. fetcher.schemes ≡ Http) }
+        ensures told { IfOk result
+            (λ fetcher. IsFetcherOf agent.now fetcher.limits Anywhere Http fetcher) }
     {
         TcpFetcher::with_limits(alloc, rt, agent, TimeLimits::standard(), Reach::Anywhere)
     }
@@ -79,9 +80,7 @@ impl<R: Net<Stream = TcpStream> + time::Clock> TcpFetcher<R> {
     where
         R: Drop,
         requires { IsAgent agent.now }
-        ensures agent { IfOk result (λ fetcher. fetcher.agent ≡ agent.now) }
-        ensures limits { IfOk result (λ fetcher. fetcher.limits ≡ limits) }
-        ensures schemes { IfOk result (λ fetcher. fetcher.schemes ≡ Http) }
+        ensures { IfOk result (IsFetcherOf agent.now limits reach Http) }
     {
         TcpFetcher::with_tls(alloc, rt, agent, limits, reach, None)
     }
@@ -98,12 +97,7 @@ impl<R: Net<Stream = TcpStream> + time::Clock> TcpFetcher<R> {
     where
         R: Drop,
         requires { IsAgent agent.now }
-        ensures agent { IfOk result (λ fetcher. fetcher.agent ≡ agent.now) }
-        ensures limits { IfOk result (λ fetcher. fetcher.limits ≡ limits) }
-        ensures schemes { IfOk result (λ fetcher. fetcher.schemes ≡ schemes_by tls_by) }
-        ensures contact { IfOk result (λ fetcher. fetcher.contact ≡ None) }
-        ensures reach { IfOk result (λ fetcher. fetcher.reach ≡ reach) }
-        ensures not_to { IfOk result (λ fetcher. fetcher.not_to ≡ []) }
+        ensures { IfOk result (IsFetcherOf agent.now limits reach (schemes_by tls_by)) }
     {
         Ok(TcpFetcher {
             agent: Vec::from_slice(alloc, agent)?,
@@ -119,14 +113,10 @@ impl<R: Net<Stream = TcpStream> + time::Clock> TcpFetcher<R> {
     where
         R: Drop,
         requires { IsAgent contact.now }
-        ensures agent { IfOk result
-            (λ fetcher. fetcher.agent ≡ agent_with self.agent (Some contact.now)) }
-        ensures contact { IfOk result (λ fetcher. fetcher.contact ≡ Some contact.now) }
-        ensures limits { IfOk result (λ fetcher. fetcher.limits ≡ self.limits) }
-        ensures schemes { IfOk result (λ fetcher. fetcher.schemes ≡ self.schemes) }
-        ensures reach { IfOk result (λ fetcher. fetcher.reach ≡ self.reach) }
-        ensures not_to { IfOk result (λ fetcher. fetcher.not_to ≡ self.not_to) }
-        ensures texts { IfOk result (λ fetcher. fetcher.texts ≡ self.texts) }
+        ensures { IfOk result (λ fetcher. fetcher ≡ record self {
+          agent = agent_with self.agent (Some contact.now);
+          contact = Some contact.now;
+        }) }
     {
         let alloc = self.allocator();
         let whole = with_comment(alloc, self.agent.as_slice(), contact)?;
@@ -152,13 +142,7 @@ impl<R: Net<Stream = TcpStream> + time::Clock> TcpFetcher<R> {
     pub fn avoiding(self, not_to: Vec<AddressBlock>) -> TcpFetcher<R>
     where
         R: Drop,
-        ensures not_to { result.not_to ≡ not_to.items }
-        ensures agent { result.agent ≡ self.agent }
-        ensures contact { result.contact ≡ self.contact }
-        ensures limits { result.limits ≡ self.limits }
-        ensures reach { result.reach ≡ self.reach }
-        ensures schemes { result.schemes ≡ self.schemes }
-        ensures texts { result.texts ≡ self.texts }
+        ensures { result ≡ record self { not_to = not_to.items } }
     {
         let TcpFetcher {
             client,
@@ -180,13 +164,7 @@ impl<R: Net<Stream = TcpStream> + time::Clock> TcpFetcher<R> {
     pub fn keeping(self, most: u64) -> TcpFetcher<R>
     where
         R: Drop,
-        ensures texts { result.texts ≡ most }
-        ensures agent { result.agent ≡ self.agent }
-        ensures contact { result.contact ≡ self.contact }
-        ensures limits { result.limits ≡ self.limits }
-        ensures reach { result.reach ≡ self.reach }
-        ensures not_to { result.not_to ≡ self.not_to }
-        ensures schemes { result.schemes ≡ self.schemes }
+        ensures { result ≡ record self { texts = most } }
     {
         let TcpFetcher {
             client,

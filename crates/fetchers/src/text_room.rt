@@ -1,6 +1,7 @@
 //! The room for the robots texts that a gate keeps.
 //! `TcpFetcher` has one.
 ghost use Rattle.std.specs.Prelude.{◌≡◌, ◌+◌, ◌<◌, ◌≤◌, IfSome, None};
+ghost use Rattle.fetchers.specs.Limits.{no_bound};
 
 use std::marker::Model;
 use std::sync::atomic::{AtomicU64, Ordering};
@@ -22,7 +23,9 @@ impl Model for TextRoom {
 
 impl TextRoom {
     /// Room without a bound.
-    pub fn new() -> TextRoom {
+    pub fn new() -> TextRoom
+        ensures { result ≡ no_bound }
+    {
         TextRoom::of(u64::MAX)
     }
 

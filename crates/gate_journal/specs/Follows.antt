@@ -1,6 +1,6 @@
 -- Text that follows earlier text: together they are the text of the history.
 -- Used by `spelling`.
-use Rattle.std.specs.Prelude.{◌≡◌, ℕ, ◌-◌, ◌≤◌, List, [], ◌++◌, length, take, drop, Result, Ok, Err, ⊤}
+use Rattle.std.specs.Prelude.{◌≡◌, ℕ, ◌-◌, ◌<◌, ◌≤◌, List, [], ◌++◌, length, take, drop, Result, Ok, Err, ⊤}
 use Rattle.gate_history.specs.declared.entry.Entry.{Entry}
 use Rattle.gate_history.specs.Segment.{Sealed}
 use Rattle.gate_core.specs.declared.refusal.NoMemory.{NoMemory}
@@ -39,9 +39,9 @@ pub record SpellsTo (place : JournalPosition) (s : Sealed) (text : List ℕ) (ne
   pub text_is : Follows place (spelled_of next s) text
   pub goes : next ≡ place → spelled_count place ≡ length s.entries
 
--- the text is that of some of the entries that a seal handed out
+-- the text is that of some of the entries that a seal handed out, and some are left
 abbrev pub PartOf : Result Sealed NoMemory → JournalPosition → List ℕ → JournalPosition → Type 0
-PartOf (Ok s) place text next = SpellsTo place s text next
+PartOf (Ok s) place text next = SpellsTo place s text next × (spelled_count next < length s.entries)
 PartOf (Err refusal) place text next = ⊥
 
 -- the text ends what a seal handed out; there is none if nothing was sealed
@@ -49,10 +49,10 @@ abbrev pub EndsFile : Result Sealed NoMemory → JournalPosition → List ℕ �
 EndsFile (Ok s) place text = Follows place s text
 EndsFile (Err refusal) place text = ⊥
 
--- what a file lacks of a segment with entries: a part of them, or all up to its end
+-- what a file lacks of a segment with entries: a part of them, behind which some are left, or all up to its end
 abbrev pub IsRestIn : JournalPosition → Sealed → Rest → Type 0
 IsRestIn place s (Nothing memory) = ⊥
-IsRestIn place s (Part text next) = SpellsTo place s text.items next
+IsRestIn place s (Part text next) = SpellsTo place s text.items next × (spelled_count next < length s.entries)
 IsRestIn place s (Last text) = Follows place s text.items
 
 -- a seal handed out no entry

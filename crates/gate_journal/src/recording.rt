@@ -7,28 +7,29 @@ ghost use Rattle.gate_journal.specs.Recorded.{BeginsWith, OfSome, SpellsUpTo, pl
 use crate::pieces::{ROOM, next_piece};
 use counted_io::{Counted, DeviceFault, Output, Sink};
 use gate_core::Book;
-use gate_lock::{Gate, GateLock};
+use gate_lock::{Gate, SharedBook};
 use history_text::export;
 use journal_files::{Chronicle, JournalFault, JournalPosition, Spelled};
 use std::alloc::{AllocError, Global};
 use std::io;
 use std::sync::Wait;
 
-/// A gate, and the runtime that waits for its lock.
+/// A gate's book, and the runtime that waits for its lock. A journal has no more of the gate, so it opens no
+/// desk.
 #[derive(Drop)]
 pub struct Recording<'a, G: Gate, R: Wait> {
     pub alloc: Global,
     pub rt: &'a R,
-    pub gate: &'a GateLock<G>,
+    pub shared: &'a SharedBook<G>,
 }
 
 impl<'a, G: Gate, R: Wait> Chronicle for Recording<'a, G, R> {
-    ghost follows = { λ r place text next. OfSome r.gate.now (SpellsUpTo place text next) };
+    ghost follows = { λ r place text next. OfSome r.shared.now (SpellsUpTo place text next) };
 
-    ghost begins = { λ r text place. OfSome r.gate.now (BeginsWith text place) };
+    ghost begins = { λ r text place. OfSome r.shared.now (BeginsWith text place) };
 
     fn entry_count(&self) -> u64 {
-        let held = self.gate.lend(self.rt);
+        let held = self.shared.lend(self.rt);
         held.book().entry_count()
     }
 
@@ -44,7 +45,7 @@ impl<'a, G: Gate, R: Wait> Chronicle for Recording<'a, G, R> {
         place: JournalPosition,
         room: Vec<u8>,
     ) -> Result<Spelled, JournalFault> {
-        let held = self.gate.lend(self.rt);
+        let held = self.shared.lend(self.rt);
         let book = held.book();
         next_piece(book.base(), book.history(), output, place, room)
     }
@@ -54,7 +55,7 @@ impl<'a, G: Gate, R: Wait> Chronicle for Recording<'a, G, R> {
         output: &mut Output,
         sink: &mut W,
     ) -> Result<JournalPosition, DeviceFault> {
-        let held = self.gate.lend(self.rt);
+        let held = self.shared.lend(self.rt);
         let book = held.book();
         let told = export(book, output, sink);
         // (nothing is pending behind an export: this says so)
@@ -65,7 +66,7 @@ impl<'a, G: Gate, R: Wait> Chronicle for Recording<'a, G, R> {
 
     /// Half of the history's limit is used.
     fn is_due(&self) -> bool {
-        let held = self.gate.lend(self.rt);
+        let held = self.shared.lend(self.rt);
         let book = held.book();
         let limit = book.limits().log_limit;
         // (of a limit of 1 that is 1: nothing is sealed where there is nothing)

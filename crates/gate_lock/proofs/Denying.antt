@@ -1,6 +1,7 @@
 -- A start of a good permit is never denied as spent.
 -- Used by `Desk::start`.
-use Rattle.std.proofs.Common.{◌≡◌, ◌≢◌, ℕ, Bool, true, false, List, ap}
+use Rattle.std.proofs.Common.{◌≡◌, ◌≢◌, ℕ, Bool, true, false, List, sym, ap}
+use Rattle.std.proofs.lemmas.Bool.{true≢false}
 use Rattle.std.specs.Prelude.{IfErr, MatchBool, Option, None, Some, Result, Ok, Err}
 use Rattle.robots_verdict.specs.declared.decision.Allowed.TheVariants as allowed
 use Rattle.robots_verdict.specs.declared.decision.Verdict.{Verdict}
@@ -21,7 +22,6 @@ use Rattle.gate_core.specs.Gate.{Gate, history}
 use Rattle.gate_core.specs.Replies.{moment_at}
 use Rattle.gate_lock.specs.Desks.{DeskView, Pass, Run}
 use Rattle.gate_lock.specs.Steps.{DeskStarts}
-use Rattle.gate_lock.proofs.Replying.{arm}
 
 verdict_says : (verdict : Verdict) (outcome : Result Reason Cause) → outcome ≡ Err Spent → outcome ≡ outcome_of verdict → ⊥
 verdict_says (Allow (allowed.Line line)) outcome spent is = cc
@@ -43,6 +43,10 @@ standing_says : (standing : Option StandingAnswer) (token url : List ℕ) (momen
     Judges standing token url moment outcome → ⊥
 standing_says None token url moment outcome spent unknown = cc
 standing_says (Some s) token url moment outcome spent judges = past_or_says (is_past_answer moment s) s.says token url outcome spent judges
+
+arm : (b : Bool) (P Q : Type 0) → b ≡ true → MatchBool b P Q → P
+arm true P Q is both = both
+arm false P Q is both = absurd (true≢false (sym is))
 
 pub not_spent : (d : DeskView) (old : Gate) (p : Pass) (m : ℕ) (result : Result Run Denial) (new : Gate) (d2 : DeskView) →
     DeskStarts d old p m result new d2 → IfErr result (λ denial. denial.cause ≢ Spent)

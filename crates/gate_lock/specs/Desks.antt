@@ -8,7 +8,8 @@ use Rattle.gate_history.specs.History.{entry_count}
 use Rattle.gate_core.specs.declared.config.Limits.{Limits}
 use Rattle.gate_core.specs.Gate.{Gate, HasLegalHistory, history}
 use Rattle.gate_marks.specs.declared.mark.Mark.{Mark}
-use Rattle.gate_marks.specs.Marks.{AreSealed, Receipt, SealedView, mark_at, nothing_sealed, sealed_with, starts_in, with_handed}
+use Rattle.gate_marks.specs.Marks.{AreSealed, Receipt, SealedView, mark_at, nothing_sealed, sealed_with, with_handed}
+use Rattle.gate_ledgers.specs.Accounts.{AccountView}
 
 -- a permit or a made fetch: number, token and URL, and the desk that must spend it
 pub record Pass : Type 0 where
@@ -27,13 +28,6 @@ pub record Errand : Type 0 where
   pub authority : List ℕ
   pub turn : ℕ
   pub desk : ℕ
-
--- a desk's shares: its number, the entries it made, the fetches it started, the entries it handed out
-pub record Shares : Type 0 where
-  pub no : ℕ
-  pub entries : ℕ
-  pub starts : ℕ
-  pub handed : ℕ
 
 -- a desk: its gate's limits; its number; the entries seen; the permits, running fetches and turns that it must spend;
 -- what it keeps of sealed entries, and the later marks
@@ -108,16 +102,12 @@ receipt_of d = record { sealed = d.sealed; marks = d.marks }
 abbrev pub out_of : DeskView → ℕ
 out_of d = d.permits + d.runs + d.turns
 
--- a desk's invariant: its shares count its marks and what it handed out; it made no more entries than it has seen; it
--- has room for two marks of each permit and one of each run and turn
-pub record IsDesk (seen permits runs turns : ℕ) (sealed : SealedView) (marks : List Mark) (shares : Shares)
-    (room : ℕ) : Type 0 where
-  pub none_before : sealed.before ≡ 0
-  pub entries_are : shares.entries ≡ length sealed.places + length marks
-  pub starts_are : shares.starts ≡ sealed.starts + starts_in marks
-  pub handed_are : shares.handed ≡ sealed.handed
-  pub few : length sealed.places + length marks ≤ seen
-  pub fits : length marks + (2 * permits + runs + turns) ≤ room
+-- a desk's invariant: it keeps only its own entries, and made no more than it has seen; there is room for two marks of
+-- each permit and one of each run and turn
+pub record IsDesk (seen permits runs turns : ℕ) (account : AccountView) : Type 0 where
+  pub none_before : account.sealed.before ≡ 0
+  pub few : length account.sealed.places + length account.marks ≤ seen
+  pub fits : length account.marks + (2 * permits + runs + turns) ≤ account.room
 
 -- a new desk of a lock with these limits that has seen some history
 abbrev pub IsNew : Limits → DeskView → Type 0

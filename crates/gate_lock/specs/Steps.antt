@@ -1,6 +1,6 @@
 -- Each call of a desk makes the book's call of that name and gives its reply; an entry made is
 -- the desk's. Cited by `Desk`.
-use Rattle.std.specs.Prelude.{◌≡◌, ℕ, true, List, length, Result, Ok, Err}
+use Rattle.std.specs.Prelude.{◌≡◌, ℕ, true, List, Result, Ok, Err}
 use Rattle.authority_cache.specs.Lives.{Timed}
 use Rattle.gate_history.specs.declared.entry.Entry.TheVariants.{Begun, Arrived, Granted, AskDenied, Started, StartDenied, Returned, Finished, Swept}
 use Rattle.gate_history.specs.Outstanding.{stands}
@@ -16,6 +16,7 @@ use Rattle.gate_core.specs.Gate.{Gate, history}
 use Rattle.gate_core.specs.Replies.{Arrives, Asks, Begins, Finishes, moment_at, Returns, Starts, Sweeps}
 use Rattle.gate_core.specs.Sealing.{Seals}
 use Rattle.gate_core.specs.States.{IsState}
+use Rattle.gate_ledgers.specs.Entered.{handed_by}
 use Rattle.gate_lock.specs.Desks.{DeskView, Errand, Hands, IsGateOf, Looks, Makes, Pass, Run}
 
 -- a step of a desk at some gate of its lock
@@ -71,11 +72,6 @@ DeskArrives d old t answer m new d2 =
 abbrev pub DeskSweeps : DeskView → Gate → ℕ → Result ℕ SweepRefusal → Gate → DeskView → Type 0
 DeskSweeps d old m (Ok count) new d2 = Sweeps old m (Ok count) new × Makes d old (Swept (moment_at old m) count) d2
 DeskSweeps d old m (Err refusal) new d2 = Sweeps old m (Err refusal) new × Looks d old d2
-
--- how many entries a seal hands out
-abbrev pub handed_by : Result Sealed NoMemory → ℕ
-handed_by (Ok sealed) = length sealed.entries
-handed_by (Err refusal) = 0
 
 -- seal: the desk hands out and counts the entries since the last seal, with what they follow, and makes none
 abbrev pub DeskSeals : DeskView → Gate → Result Sealed NoMemory → Gate → DeskView → Type 0

@@ -1,29 +1,27 @@
 //! `Desk::ask` and `Desk::ask_in`: a permit for one fetch. Copies are made before the lock is taken.
 //! RFC 9309, sections 2.2 and 2.3.1.
-ghost use Rattle.std.specs.Prelude.{◌≡◌, ◌+◌, ◌*◌, ◌^◌, ◌<◌, ◌≤◌, ℕ, Err, IfOk, length, List, OnErr, vec_capacity};
+ghost use Rattle.std.specs.Prelude.{◌≡◌, ◌+◌, ◌*◌, ◌^◌, ◌<◌, ◌≤◌, ℕ, Err, false, IfOk, length, List, OnErr};
 ghost use Rattle.gate_history.specs.History.{entry_count};
 ghost use Rattle.gate_core.specs.Gate.{history};
+ghost use Rattle.gate_core.specs.Replies.{Asks};
+ghost use Rattle.gate_ledgers.specs.Entered.{entries_of_ask};
 ghost use Rattle.gate_lock.specs.Desks.{HasOut, KeepsOut};
-ghost use Rattle.gate_lock.specs.Results.{AsksRound, MarksRefusal, entries_of_ask};
+ghost use Rattle.gate_lock.specs.Results.{AsksRound, is_denial};
 ghost use Rattle.gate_lock.specs.Steps.{DeskAsks, Somewhere};
 
 use crate::desk::{Desk, make_room};
 use crate::desk_ask::DeskAsk;
-use crate::ledgers::Gate;
+use crate::held::Held;
 use crate::linear_values::{Pass, Permit};
-use crate::lock::Held;
-use crate::round::Round;
-use crate::shares::Mine;
-use gate_core::AskRefusal;
-use gate_history::FetchText;
-use gate_marks::Mark;
+use gate_core::{AskRefusal, Book};
+use gate_ledgers::{Account, CountedBook, Gate};
 use path_normal::PageUrl;
 use robots_text::Token;
 use robots_verdict::with_index;
 use std::alloc::Global;
 use std::sync::Wait;
 
-#[tactic(auto, using(std::proofs::lemmas::Grind::common_steps, crate::proofs::Starts::starts_in_push))]
+#[tactic(auto)]
 impl<'a, G: Gate> Desk<'a, G> {
     /// Asks for a permit. A slow verdict is found outside the lock, by the policy in force before; it
     /// counts only if the answer in force under the lock has the same text.
@@ -41,10 +39,10 @@ impl<'a, G: Gate> Desk<'a, G> {
             (λ p. (p.desk ≡ self.old.no) × HasOut self.old self.new 1 0 0 0 0 0) }
         ensures err { OnErr result (KeepsOut self.old self.new) }
     {
-        let alloc: Global = *self.marks.allocator();
+        let alloc = self.account.allocator();
         // Room for `ask_in`; if memory is refused here, `ask_in` asks again.
         let promised = self.promised();
-        let _ = make_room(&mut self.marks, promised, 3);
+        let _ = make_room(&mut self.account, promised, 3);
         match DeskAsk::new(token, url) {
             Ok(ask) => self.ask_copied(rt, alloc, ask, moment),
             Err(_) => Err(self.refuse_ask(rt, moment)),
@@ -60,7 +58,7 @@ impl<'a, G: Gate> Desk<'a, G> {
     {
         let held = self.lend(rt);
         self.seen = held.guard.entry_count();
-        held.guard.refuse_ask(moment)
+        refused_ask(held.book(), moment)
     }
 
     // Asks for a permit, judged outside the lock if its verdict is slow.
@@ -102,10 +100,9 @@ impl<'a, G: Gate> Desk<'a, G> {
         ensures { DeskAsks self.old held.old ask.token ask.url moment result held.new self.new }
     {
         let promised = self.promised();
-        let round = &mut *held.guard;
-        let mine = &mut self.mine;
-        let result = ask_round(round, ask, moment, mine, &mut self.marks, promised);
-        self.seen = round.entry_count();
+        let counted = &mut *held.guard;
+        let result = ask_round(counted, ask, moment, &mut self.account, promised);
+        self.seen = counted.entry_count();
         match result {
             Ok(permit) => {
                 self.permits += 1;
@@ -116,43 +113,40 @@ impl<'a, G: Gate> Desk<'a, G> {
     }
 }
 
-// The book's ask and the mark of its entry, if there is memory for the marks of its permit beside the
-// promised ones.
+// The book's ask, if there is memory for the marks of its permit beside the promised ones.
 fn ask_round<G: Gate>(
-    round: &mut Round<G>,
+    counted: &mut CountedBook<G>,
     prepared: DeskAsk,
     moment: u64,
-    mine: &mut Mine<G>,
-    marks: &mut Vec<Mark>,
+    account: &mut Account<G>,
     promised: u64,
 ) -> Result<Permit<G>, AskRefusal>
     requires few { promised < 2 ^ 63 }
-    requires fits { length marks.old.items + promised ≤ vec_capacity marks.old }
-    ensures asked { AsksRound round.old prepared mine.old marks.old.items moment
-        result round.new mine.new marks.new.items }
-    ensures room { length marks.old.items + promised + 3 * entries_of_ask result
-        ≤ vec_capacity marks.new }
+    requires fits { length account.old.marks + promised ≤ account.old.room }
+    ensures asked { AsksRound counted.old prepared account.old moment
+        result counted.new account.new }
+    ensures room { length account.old.marks + promised + 3 * entries_of_ask result
+        ≤ account.new.room }
 {
-    if make_room(marks, promised, 3).is_err() {
+    if make_room(account, promised, 3).is_err() {
         // (let go in place, each of its parts would be a branch of the proof)
         drop(prepared);
-        return Err(round.refuse_ask(moment));
+        return Err(refused_ask(counted.book(), moment));
     }
-    ask_marked(round, prepared, moment, mine, marks)
+    ask_marked(counted, prepared, moment, account)
 }
 
-// The book's ask and the mark of its entry, for which there is room.
+// The book's ask and its permit. There is room for the mark.
 fn ask_marked<G: Gate>(
-    round: &mut Round<G>,
+    counted: &mut CountedBook<G>,
     asked: DeskAsk,
     moment: u64,
-    mine: &mut Mine<G>,
-    marks: &mut Vec<Mark>,
+    account: &mut Account<G>,
 ) -> Result<Permit<G>, AskRefusal>
-    requires { length marks.old.items < vec_capacity marks.old }
-    ensures asked { AsksRound round.old asked mine.old marks.old.items moment
-        result round.new mine.new marks.new.items }
-    ensures capacity { vec_capacity marks.new ≡ vec_capacity marks.old }
+    requires { length account.old.marks < account.old.room }
+    ensures asked { AsksRound counted.old asked account.old moment
+        result counted.new account.new }
+    ensures room { account.new.room ≡ account.old.room }
 {
     let DeskAsk {
         judged,
@@ -160,40 +154,25 @@ fn ask_marked<G: Gate>(
         url,
         fetch,
     } = asked;
-    match round.ask(judged, moment, mine) {
-        Ok((number, one)) => {
-            marks.push_reserved(round.last().granted(number, fetch));
-            Ok(Pass {
-                number,
-                token,
-                url,
-                desk: mine.no,
-                one,
-            })
-        }
-        Err(refusal) => {
-            mark_denial(round, fetch, &refusal, marks);
-            Err(refusal)
-        }
+    match counted.ask(judged, fetch, moment, account) {
+        Ok((number, one)) => Ok(Pass {
+            number,
+            token,
+            url,
+            desk: account.no(),
+            one,
+        }),
+        Err(refusal) => Err(refusal),
     }
 }
 
-// The mark of a denied ask, which is the last entry; none of another refusal.
-fn mark_denial<G: Gate>(
-    round: &Round<G>,
-    fetch: FetchText,
-    refusal: &AskRefusal,
-    marks: &mut Vec<Mark>,
-)
-    requires { length marks.old.items < vec_capacity marks.old }
-    ensures marks { MarksRefusal fetch refusal.now round.now marks.old.items marks.new.items }
-    ensures capacity { vec_capacity marks.new ≡ vec_capacity marks.old }
+// The refusal of an ask that ran out of memory before it was made.
+fn refused_ask(book: &Book, moment: u64) -> AskRefusal
+    ensures reply { (token url : List ℕ) → Asks book.now token url moment (Err result) book.now }
+    ensures no_entry { is_denial result ≡ false }
 {
-    match refusal {
-        AskRefusal::Denied(denial) => {
-            let mark = round.last().ask_denied(fetch, denial.cause);
-            marks.push_reserved(mark);
-        }
-        _ => {}
+    if book.has_room(3) {
+        return AskRefusal::NoMemory;
     }
+    AskRefusal::LogFull
 }

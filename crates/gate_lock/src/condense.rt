@@ -4,15 +4,14 @@ ghost use Rattle.gate_lock.specs.Desks.{Condenses, out_of};
 ghost use Rattle.gate_lock.specs.Steps.{Somewhere};
 
 use crate::desk::Desk;
-use crate::ledgers::Gate;
-use gate_marks::count_below;
+use gate_ledgers::Gate;
 use std::sync::Wait;
 
 #[tactic(auto)]
 impl<'a, G: Gate> Desk<'a, G> {
     /// Whether the next call may allocate for marks: the time to condense.
     pub fn is_full(&self) -> bool {
-        self.marks.capacity() - self.marks.len() < self.promised() as usize + 3
+        self.account.room() - self.account.marks().len() < self.promised() as usize + 3
     }
 
     /// Of the first marks whose entries were sealed, keeps only the place (eight octets) and the count of
@@ -29,9 +28,6 @@ impl<'a, G: Gate> Desk<'a, G> {
             self.seen = held.guard.entry_count();
             held.sealed_count()
         };
-        let count = count_below(self.marks.as_slice(), sealed);
-        if count >= self.marks.len().div_ceil(2) {
-            let _ = self.sealed.take_in(&mut self.marks, count);
-        }
+        self.account.condense(sealed);
     }
 }

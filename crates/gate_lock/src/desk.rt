@@ -1,19 +1,16 @@
 //! A desk: one thread's part of a gate. It makes the book's calls and keeps a mark of each entry that it
 //! made.
 //! RFC 9309, sections 2.2 to 2.4.
-ghost use Rattle.std.specs.Prelude.{◌≡◌, ◌+◌, ◌*◌, ◌^◌, ◌<◌, ◌≤◌, IfOk, length, OnOk, vec_capacity};
+ghost use Rattle.std.specs.Prelude.{◌≡◌, ◌+◌, ◌*◌, ◌^◌, ◌<◌, ◌≤◌, length, OnOk};
 ghost use Rattle.gate_core.specs.Gate.{history};
 ghost use Rattle.gate_lock.specs.Awaiting.{IsMet};
-ghost use Rattle.gate_lock.specs.Desks.{IsGateOf, IsNew, out_of, receipt_of};
+ghost use Rattle.gate_lock.specs.Desks.{IsGateOf, out_of, receipt_of};
 
 use crate::awaited::Awaited;
-use crate::ledgers::Gate;
-use crate::lock::{GateLock, Held};
-use crate::receipts::Receipts;
-use crate::shares::Mine;
-use crate::tally::DesksFull;
-use gate_marks::{Mark, SealedMarks};
-use std::alloc::{AllocError, Global};
+use crate::held::Held;
+use crate::shared_book::SharedBook;
+use gate_ledgers::{Account, Gate, Receipts};
+use std::alloc::AllocError;
 use std::marker::Model;
 use std::sync::Wait;
 
@@ -21,58 +18,32 @@ use std::sync::Wait;
 /// Dropping one would lose its marks, and the gate could never be settled.
 #[must_use]
 pub struct Desk<'a, G: Gate> {
-    pub(crate) gate: &'a GateLock<G>,
+    pub(crate) shared: &'a SharedBook<G>,
     pub(crate) seen: u64,
     pub(crate) permits: u64,
     pub(crate) runs: u64,
     pub(crate) turns: u64,
-    // What is kept of sealed entries.
-    pub(crate) sealed: SealedMarks,
-    // The later marks, with room for those of what must still be spent.
-    pub(crate) marks: Vec<Mark>,
-    pub(crate) mine: Mine<G>,
+    // What it did, with room for the marks of what must still be spent.
+    pub(crate) account: Account<G>,
 }
 
 impl<'a, G: Gate> Model for Desk<'a, G> {
-    ghost use Rattle.std.specs.Prelude.{vec_capacity};
     ghost use Rattle.gate_lock.specs.Desks.{DeskView, IsDesk};
 
     ghost Value = { DeskView };
 
     ghost view = { λ desk. record {
-      limits = desk.gate.now;
-      no = desk.mine.no;
+      limits = desk.shared.now;
+      no = desk.account.no;
       seen = desk.seen;
       permits = desk.permits;
       runs = desk.runs;
       turns = desk.turns;
-      sealed = desk.sealed;
-      marks = desk.marks.items;
+      sealed = desk.account.sealed;
+      marks = desk.account.marks;
     } };
 
-    ghost invariant = { λ desk. IsDesk desk.seen desk.permits desk.runs desk.turns desk.sealed
-        desk.marks.items desk.mine (vec_capacity desk.marks) };
-}
-
-impl<G: Gate> GateLock<G> {
-    /// One more desk, numbered from 1.
-    pub fn desk<R: Wait>(&self, rt: &R, alloc: Global) -> Result<Desk<'_, G>, DesksFull>
-        ensures new { IfOk result (IsNew self.now) }
-        ensures out { IfOk result (λ desk. out_of desk ≡ 0) }
-    {
-        let mut held = self.lend(rt);
-        let mine = held.guard.desk()?;
-        Ok(Desk {
-            gate: self,
-            seen: held.guard.entry_count(),
-            permits: 0,
-            runs: 0,
-            turns: 0,
-            sealed: SealedMarks::new(alloc),
-            marks: Vec::new(alloc),
-            mine,
-        })
-    }
+    ghost invariant = { λ desk. IsDesk desk.seen desk.permits desk.runs desk.turns desk.account };
 }
 
 impl<'a, G: Gate> Desk<'a, G> {
@@ -80,7 +51,7 @@ impl<'a, G: Gate> Desk<'a, G> {
     pub fn desk_no(&self) -> u64
         ensures { result ≡ self.now.no }
     {
-        self.mine.no
+        self.account.no()
     }
 
     /// How many entries it made.
@@ -88,7 +59,7 @@ impl<'a, G: Gate> Desk<'a, G> {
         ensures marks { result ≡ length self.now.sealed.places + length self.now.marks }
         ensures seen { result ≤ self.now.seen }
     {
-        (self.sealed.places().len() + self.marks.len()) as u64
+        (self.account.sealed().places().len() + self.account.marks().len()) as u64
     }
 
     /// How many entries the history had when it last looked, since the first entry of all.
@@ -102,6 +73,8 @@ impl<'a, G: Gate> Desk<'a, G> {
     pub fn out(&self) -> u64
         ensures { result ≡ out_of self.now }
     {
+        // (there is room for a mark of each)
+        let _room = self.account.room();
         self.permits + self.runs + self.turns
     }
 
@@ -110,6 +83,7 @@ impl<'a, G: Gate> Desk<'a, G> {
         ensures value { result ≡ 2 * self.now.permits + self.now.runs + self.now.turns }
         ensures bound { result < 2 ^ 63 }
     {
+        let _room = self.account.room();
         2 * self.permits + self.runs + self.turns
     }
 
@@ -125,7 +99,7 @@ impl<'a, G: Gate> Desk<'a, G> {
         ensures gate { IsGateOf self.now.limits self.now.seen result }
         ensures met { IsMet awaited.now (history result) }
     {
-        self.gate.lend_when(rt, self.seen, awaited)
+        self.shared.lend_when(rt, self.seen, awaited)
     }
 
     /// Closes a desk that has nothing out.
@@ -134,29 +108,27 @@ impl<'a, G: Gate> Desk<'a, G> {
         ensures { result ≡ receipt_of self.entry }
     {
         let Desk {
-            gate: _,
+            shared: _,
             seen: _,
             permits: _,
             runs: _,
             turns: _,
-            sealed,
-            marks,
-            mine,
+            account,
         } = self;
-        Receipts {
-            sealed,
-            marks,
-            mine,
-        }
+        account.close()
     }
 }
 
 // Makes room for more marks beside the promised ones.
-pub(crate) fn make_room(marks: &mut Vec<Mark>, promised: u64, more: usize) -> Result<(), AllocError>
+pub(crate) fn make_room<G: Gate>(
+    account: &mut Account<G>,
+    promised: u64,
+    more: usize,
+) -> Result<(), AllocError>
     requires { (promised < 2 ^ 63) × (more ≤ 3) }
-    ensures items { marks.new.items ≡ marks.old.items }
-    ensures capacity { vec_capacity marks.old ≤ vec_capacity marks.new }
-    ensures room { OnOk result (length marks.old.items + promised + more ≤ vec_capacity marks.new) }
+    ensures same { account.new ≡ record account.old { room = account.new.room } }
+    ensures capacity { account.old.room ≤ account.new.room }
+    ensures room { OnOk result (length account.old.marks + promised + more ≤ account.new.room) }
 {
-    marks.reserve(promised as usize + more)
+    account.reserve(promised as usize + more)
 }

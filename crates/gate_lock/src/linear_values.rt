@@ -2,10 +2,9 @@
 //! `Desk` makes them and takes them back; a program that drops one does not compile.
 ghost use Rattle.std.specs.Prelude.{◌≡◌};
 
-use crate::ledgers::{Gate, RunningLedger, TurnLedger, UnspentLedger};
-use crate::shares::One;
 use authority_cache::TurnNo;
 use gate_history::Reason;
+use gate_ledgers::{Gate, One, RunningLedger, TurnLedger, UnspentLedger};
 use numbered_store::Numbered;
 use path_normal::{Authority, PageUrl};
 use permit_book::PermitNo;

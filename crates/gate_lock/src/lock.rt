@@ -1,38 +1,25 @@
-//! The lock of a gate, and its guard, which can be lent.
+//! The lock of a gate. Desks are opened here, and nowhere else.
 //! Each call here takes the lock once; none fetches or matches under it.
-ghost use Rattle.std.specs.Prelude.{◌≡◌, ◌^◌, ◌<◌, [], length};
+ghost use Rattle.std.specs.Prelude.{◌≡◌, ◌^◌, ◌<◌, [], IfOk};
 ghost use Rattle.gate_history.specs.Base.{empty_base};
-ghost use Rattle.gate_history.specs.Outstanding.{unspent};
-ghost use Rattle.gate_core.specs.Gate.{HasLegalHistory, history};
-ghost use Rattle.gate_lock.specs.Awaiting.{IsMet};
-ghost use Rattle.gate_lock.specs.Balance.{counted_before};
-ghost use Rattle.gate_lock.specs.Desks.{IsGateOf};
-ghost use Rattle.gate_lock.specs.Past.{past_of};
+ghost use Rattle.gate_ledgers.specs.Accounts.{past_of};
+ghost use Rattle.gate_lock.specs.Desks.{IsGateOf, IsNew, out_of};
 
-use crate::awaited::Awaited;
-use crate::ledgers::{Blanks, Gate};
-use crate::linear_values::Permit;
-use crate::receipts::Receipts;
-use crate::round::Round;
-use crate::tally::Tally;
-use crossbeam_utils::Backoff;
-use gate_core::{Book, Limits};
-use gate_marks::SealedMarks;
+use crate::desk::Desk;
+use crate::held::Held;
+use crate::shared_book::SharedBook;
+use gate_core::Book;
+use gate_ledgers::{Accounts, Blanks, CountedBook, DesksFull, Gate, Receipts};
 use std::alloc::Global;
 use std::marker::Model;
-use std::sync::{Condvar, Mutex, MutexGuard, Wait};
+use std::sync::{Mutex, Wait};
 
-// How often the lock is tried before its caller sleeps. It is held for about a microsecond, and a sleep
-// takes tens of these.
-const TRIES: usize = 12;
-
-/// A book under a lock, with the ledgers of what is out.
+/// A book under a lock, with the ledgers of what is out and the accounts that desks may open.
 #[derive(Drop)]
 pub struct GateLock<G: Gate> {
-    round: Mutex<Round<G>>,
-    limits: Limits,
-    // Notified of each answer that arrives, for callers that wait until a turn is over.
-    moved: Condvar,
+    shared: SharedBook<G>,
+    // (a desk has the book alone, so none of its calls can open another one)
+    accounts: Mutex<Accounts<G>>,
 }
 
 impl<G: Gate> Model for GateLock<G> {
@@ -40,51 +27,7 @@ impl<G: Gate> Model for GateLock<G> {
 
     ghost Value = { Limits };
 
-    ghost view = { λ lock. lock.limits };
-}
-
-/// The guard of the lock. A clause sees it as the locked book.
-#[derive(Drop)]
-pub struct Held<'a, G: Gate> {
-    pub(crate) guard: MutexGuard<'a, Round<G>>,
-}
-
-impl<'a, G: Gate> Model for Held<'a, G> {
-    ghost use Rattle.std.specs.Sync.Mutex.{mutex_guard_value};
-    ghost use Rattle.gate_core.specs.Gate.{Gate};
-
-    ghost Value = { Gate };
-
-    ghost view = { λ held. mutex_guard_value held.guard };
-}
-
-impl<'a, G: Gate> Held<'a, G> {
-    /// The book.
-    pub fn book(&self) -> &Book
-        ensures value { result.now ≡ self.now }
-        ensures legal { HasLegalHistory self.now }
-        ensures start { self.now.base.entries ≡ 0 → self.now.base ≡ empty_base }
-    {
-        let book = self.guard.book();
-        let _legal = book.history();
-        book
-    }
-
-    /// How many entries of the gate were sealed.
-    pub fn sealed_count(&self) -> u64
-        ensures { result ≡ self.now.base.entries }
-    {
-        self.book().base().entries()
-    }
-}
-
-/// A permit proves that one is unspent in its gate: while it is kept, the gate can't be settled. Changes
-/// neither.
-pub fn vouch<G: Gate>(held: &mut Held<'_, G>, permit: &mut Permit<G>)
-    ensures same { (held.new ≡ held.old) × (permit.new ≡ permit.old) }
-    ensures some { 0 < length (unspent (history held.old)) }
-{
-    held.guard.vouch(&mut permit.one);
+    ghost view = { λ lock. lock.shared };
 }
 
 impl<G: Gate> GateLock<G> {
@@ -94,9 +37,11 @@ impl<G: Gate> GateLock<G> {
         requires blanks { blanks ≡ G.ledgers }
         ensures { result ≡ book.limits }
     {
-        let (tally, past) = Tally::open(blanks);
-        past.let_go();
-        GateLock::around(book, tally)
+        let (counted, accounts) = CountedBook::new(book, blanks);
+        GateLock {
+            shared: SharedBook::new(counted),
+            accounts: Mutex::new(accounts),
+        }
     }
 
     /// A lock round a book that continues a base and has made no entry since, with new ledgers; and the
@@ -112,77 +57,42 @@ impl<G: Gate> GateLock<G> {
         ensures limits { result.0 ≡ book.limits }
         ensures past { result.1 ≡ past_of book.base }
     {
-        let entries = book.base().entries();
-        let starts = book.base().started();
-        let (mut tally, mut mine) = Tally::open(blanks);
-        tally.count_past(&mut mine, entries, starts);
-        let past = Receipts {
-            sealed: SealedMarks::first(alloc, entries, starts),
-            marks: Vec::new(alloc),
-            mine,
+        let (counted, accounts, past) = CountedBook::resume(alloc, book, blanks);
+        let lock = GateLock {
+            shared: SharedBook::new(counted),
+            accounts: Mutex::new(accounts),
         };
-        (GateLock::around(book, tally), past)
+        (lock, past)
     }
 
-    fn around(book: Book, tally: Tally<G>) -> GateLock<G>
-        requires entries { book.entries ≡ [] }
-        requires out { (book.base.in_flight ≡ []) × (book.base.unspent ≡ [])
-            × (book.base.running ≡ []) }
-        requires start { book.base.entries ≡ 0 → book.base ≡ empty_base }
-        requires tally { tally ≡ counted_before book.base }
-        ensures { result ≡ book.limits }
+    /// One more desk, numbered from 1.
+    pub fn desk<R: Wait>(&self, rt: &R, alloc: Global) -> Result<Desk<'_, G>, DesksFull>
+        ensures new { IfOk result (IsNew self.now) }
+        ensures out { IfOk result (λ desk. out_of desk ≡ 0) }
     {
-        let limits = book.limits();
-        GateLock {
-            round: Mutex::new(Round::new(book, tally)),
-            limits,
-            moved: Condvar::new(),
-        }
+        let account = self.accounts.lock(rt).open(alloc)?;
+        let seen = self.lend(rt).guard.entry_count();
+        Ok(Desk {
+            shared: &self.shared,
+            seen,
+            permits: 0,
+            runs: 0,
+            turns: 0,
+            account,
+        })
+    }
+
+    /// The book under its lock, for those that open no desk.
+    pub fn shared(&self) -> &SharedBook<G>
+        ensures { result.now ≡ self.now }
+    {
+        &self.shared
     }
 
     /// The lock, until it is dropped. Its holder must not take it again.
     pub fn lend<R: Wait>(&self, rt: &R) -> Held<'_, G>
         ensures { IsGateOf self.now 0 result }
     {
-        self.lend_when(rt, 0, &Awaited::Nothing)
-    }
-
-    // The lock, once the history has this many entries and the awaited condition holds.
-    pub(crate) fn lend_when<'b, R: Wait>(
-        &self,
-        rt: &R,
-        seen: u64,
-        awaited: &'b Awaited<'b>,
-    ) -> Held<'_, G>
-        ensures gate { IsGateOf self.now seen result }
-        ensures met { IsMet awaited.now (history result) }
-    {
-        let limits = self.limits;
-        let round = self.take(rt);
-        let guard = self.moved.wait_while(rt, round, |round| {
-            let book = round.book();
-            book.limits() != limits || book.entry_count() < seen || !awaited.is_met(book)
-        });
-        let held = Held { guard };
-        let _legal = held.book();
-        held
-    }
-
-    // The guard of the lock. It is tried for a while even if others sleep, unlike by `Mutex::lock`: as soon as
-    // one sleeps, every later caller would. The tries become rarer, since each slows the holder down.
-    fn take<R: Wait>(&self, rt: &R) -> MutexGuard<'_, Round<G>> {
-        let backoff = Backoff::new();
-        for _ in 0..TRIES {
-            if let Some(round) = self.round.try_lock() {
-                return round;
-            }
-            backoff.spin();
-        }
-        self.round.lock(rt)
-    }
-
-    // Wakes all callers that wait until a turn is over.
-    pub(crate) fn tell(&self) {
-        self.moved.notify_all();
+        self.shared.lend(rt)
     }
 }

@@ -1,20 +1,20 @@
 //! `Desk::sweep`, and what a desk may know of an authority: `state_of` and `wait_answer`.
 //! RFC 9309, section 2.4.
-ghost use Rattle.std.specs.Prelude.{◌≡◌, ◌≤◌, false};
+ghost use Rattle.std.specs.Prelude.{◌≡◌, ◌≤◌, Err, false};
 ghost use Rattle.gate_history.specs.History.{entry_count};
 ghost use Rattle.gate_core.specs.Gate.{history};
+ghost use Rattle.gate_core.specs.Replies.{Sweeps};
 ghost use Rattle.gate_lock.specs.Desks.{KeepsOut};
 ghost use Rattle.gate_lock.specs.Steps.{DeskReads, DeskSweeps, Somewhere};
 
 use crate::awaited::Awaited;
 use crate::desk::{Desk, make_room};
-use crate::ledgers::Gate;
-use crate::lock::Held;
-use gate_core::{State, SweepRefusal};
-use gate_history::Entry;
+use crate::held::Held;
+use gate_core::{Book, State, SweepRefusal};
+use gate_ledgers::Gate;
 use std::sync::Wait;
 
-#[tactic(auto, using(std::proofs::lemmas::Grind::common_steps, crate::proofs::Starts::starts_in_push))]
+#[tactic(auto)]
 impl<'a, G: Gate> Desk<'a, G> {
     /// Drops the answers that are older than their lifetimes, and returns how many.
     pub fn sweep<R: Wait>(&mut self, rt: &R, moment: u64) -> Result<u64, SweepRefusal>
@@ -24,7 +24,7 @@ impl<'a, G: Gate> Desk<'a, G> {
         ensures out { KeepsOut self.old self.new }
     {
         let promised = self.promised();
-        let _ = make_room(&mut self.marks, promised, 1);
+        let _ = make_room(&mut self.account, promised, 1);
         let mut held = self.lend(rt);
         self.sweep_in(&mut held, moment)
     }
@@ -34,25 +34,15 @@ impl<'a, G: Gate> Desk<'a, G> {
         requires { self.old.seen ≤ entry_count (history held.old) }
         ensures { DeskSweeps self.old held.old moment result held.new self.new }
     {
-        let round = &mut *held.guard;
+        let counted = &mut *held.guard;
         let promised = self.promised();
-        if make_room(&mut self.marks, promised, 1).is_err() {
-            self.seen = round.entry_count();
-            return Err(round.refuse_sweep(moment));
+        if make_room(&mut self.account, promised, 1).is_err() {
+            self.seen = counted.entry_count();
+            return Err(refused_sweep(counted.book(), moment));
         }
-        let result = round.sweep(moment, &mut self.mine);
-        self.seen = round.entry_count();
-        match result {
-            Ok(count) => {
-                let last = round.last();
-                self.marks.push_reserved(last.mark(Entry::Swept {
-                    moment: last.moment,
-                    count,
-                }));
-                Ok(count)
-            }
-            Err(refusal) => Err(refusal),
-        }
+        let result = counted.sweep(moment, &mut self.account);
+        self.seen = counted.entry_count();
+        result
     }
 
     /// What is known of an authority at this moment. Takes no memory.
@@ -87,4 +77,14 @@ impl<'a, G: Gate> Desk<'a, G> {
         let mut held = self.lend_when(rt, &Awaited::Idle { authority });
         self.state_in(&mut held, authority, moment)
     }
+}
+
+// The refusal of a sweep that ran out of memory before it was made.
+fn refused_sweep(book: &Book, moment: u64) -> SweepRefusal
+    ensures { Sweeps book.now moment (Err result) book.now }
+{
+    if book.has_room(1) {
+        return SweepRefusal::NoMemory;
+    }
+    SweepRefusal::LogFull
 }

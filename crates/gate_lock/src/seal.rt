@@ -3,14 +3,15 @@
 ghost use Rattle.std.specs.Prelude.{◌≤◌};
 ghost use Rattle.gate_history.specs.History.{entry_count};
 ghost use Rattle.gate_core.specs.Gate.{history};
+ghost use Rattle.gate_ledgers.specs.Entered.{handed_by};
 ghost use Rattle.gate_lock.specs.Desks.{HandsOutMore};
-ghost use Rattle.gate_lock.specs.Steps.{DeskSeals, Somewhere, handed_by};
+ghost use Rattle.gate_lock.specs.Steps.{DeskSeals, Somewhere};
 
 use crate::desk::Desk;
-use crate::ledgers::Gate;
-use crate::lock::Held;
+use crate::held::Held;
 use gate_core::NoMemory;
 use gate_history::Segment;
+use gate_ledgers::Gate;
 use std::sync::Wait;
 
 #[tactic(auto)]
@@ -34,8 +35,6 @@ impl<'a, G: Gate> Desk<'a, G> {
         ensures { DeskSeals self.old held.old result held.new self.new }
     {
         self.seen = held.guard.entry_count();
-        let segment = held.guard.seal(&mut self.mine)?;
-        self.sealed.hand(segment.entries().len() as u64);
-        Ok(segment)
+        held.guard.seal(&mut self.account)
     }
 }

@@ -12,14 +12,14 @@ ghost use Rattle.gate_lock.specs.Steps.{DeskFinishes, DeskReturns, DeskStarts, S
 
 use crate::awaited::Awaited;
 use crate::desk::Desk;
-use crate::ledgers::Gate;
+use crate::held::Held;
 use crate::linear_values::{Fetched, Pass, Permit, Running};
-use crate::lock::Held;
 use gate_core::Denial;
-use gate_history::{Entry, Ruling};
+use gate_history::Ruling;
+use gate_ledgers::Gate;
 use std::sync::Wait;
 
-#[tactic(auto, using(std::proofs::lemmas::Grind::common_steps, crate::proofs::Starts::starts_in_push))]
+#[tactic(auto)]
 impl<'a, G: Gate> Desk<'a, G> {
     /// Starts the fetch of a permit of this desk. The answer in force now decides, and a denied start
     /// spends the permit too. The cause is never `Spent`. As for an ask, a slow verdict is found outside
@@ -118,7 +118,7 @@ impl<'a, G: Gate> Desk<'a, G> {
         requires ruled { IfSome ruling (λ ruling. IsRuling permit.token permit.url ruling.now) }
         ensures { DeskStarts self.old held.old permit moment result held.new self.new }
     {
-        let round = &mut *held.guard;
+        let counted = &mut *held.guard;
         let Pass {
             number,
             token,
@@ -126,27 +126,16 @@ impl<'a, G: Gate> Desk<'a, G> {
             desk,
             one,
         } = permit;
-        let result = round.start(number, &token, url, ruling, one, moment, &mut self.mine);
-        self.seen = round.entry_count();
+        let account = &mut self.account;
+        let _room = account.room();
+        let result = counted.start(number, &token, url, ruling, one, moment, account);
+        self.seen = counted.entry_count();
         self.permits -= 1;
-        let last = round.last();
         let (started, one) = match result {
             Ok(both) => both,
-            Err(denial) => {
-                self.marks.push_reserved(last.mark(Entry::StartDenied {
-                    moment: last.moment,
-                    number,
-                    cause: denial.cause,
-                }));
-                return Err(denial);
-            }
+            Err(denial) => return Err(denial),
         };
         self.runs += 1;
-        self.marks.push_reserved(last.mark(Entry::Started {
-            moment: last.moment,
-            number,
-            reason: started.reason,
-        }));
         Ok(Running {
             fetched: Pass {
                 number,
@@ -165,14 +154,11 @@ impl<'a, G: Gate> Desk<'a, G> {
         requires unspent { is_unspent (history held.old) permit.number ≡ true }
         ensures { DeskReturns self.old held.old permit.number held.new self.new }
     {
-        let round = &mut *held.guard;
+        let counted = &mut *held.guard;
         let (number, one) = permit.into_share();
-        round.back(number, one, &mut self.mine);
-        self.seen = round.entry_count();
+        counted.back(number, one, &mut self.account);
+        self.seen = counted.entry_count();
         self.permits -= 1;
-        let last = round.last();
-        self.marks
-            .push_reserved(last.mark(Entry::Returned { number }));
     }
 
     fn finish_in(&mut self, held: &mut Held<'_, G>, fetched: Fetched<G>)
@@ -181,13 +167,10 @@ impl<'a, G: Gate> Desk<'a, G> {
         requires running { is_running (history held.old) fetched.number ≡ true }
         ensures { DeskFinishes self.old held.old fetched.number held.new self.new }
     {
-        let round = &mut *held.guard;
+        let counted = &mut *held.guard;
         let (number, one) = fetched.into_share();
-        round.finish(number, one, &mut self.mine);
-        self.seen = round.entry_count();
+        counted.finish(number, one, &mut self.account);
+        self.seen = counted.entry_count();
         self.runs -= 1;
-        let last = round.last();
-        self.marks
-            .push_reserved(last.mark(Entry::Finished { number }));
     }
 }

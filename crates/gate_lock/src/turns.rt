@@ -1,29 +1,27 @@
 //! `Desk::begin` and `arrive`: a turn to fetch a robots.txt, and its answer.
 //! RFC 9309, section 2.3.
-ghost use Rattle.std.specs.Prelude.{◌≡◌, ◌+◌, ◌*◌, ◌^◌, ◌<◌, ◌≤◌, Err, IfOk, length, OnErr, true, vec_capacity};
+ghost use Rattle.std.specs.Prelude.{◌≡◌, ◌+◌, ◌*◌, ◌^◌, ◌<◌, ◌≤◌, Err, IfOk, length, OnErr, true};
 ghost use Rattle.gate_history.specs.History.{entry_count};
 ghost use Rattle.gate_history.specs.Standing.{has_turn};
 ghost use Rattle.gate_core.specs.Gate.{history};
+ghost use Rattle.gate_core.specs.Replies.{Begins};
+ghost use Rattle.gate_ledgers.specs.Entered.{entries_of_ok};
 ghost use Rattle.gate_lock.specs.Desks.{HasOut, KeepsOut};
-ghost use Rattle.gate_lock.specs.Results.{BeginsRound, entries_of_ok};
+ghost use Rattle.gate_lock.specs.Results.{BeginsRound};
 ghost use Rattle.gate_lock.specs.Steps.{DeskArrives, DeskBegins, Somewhere};
 
 use crate::awaited::Awaited;
 use crate::desk::{Desk, make_room};
-use crate::ledgers::Gate;
+use crate::held::Held;
 use crate::linear_values::RobotsTurn;
-use crate::lock::Held;
-use crate::round::Round;
-use crate::shares::Mine;
 use authority_cache::TimedAnswer;
-use gate_core::BeginRefusal;
-use gate_history::Entry;
-use gate_marks::Mark;
+use gate_core::{BeginRefusal, Book};
+use gate_ledgers::{Account, CountedBook, Gate};
 use path_normal::Authority;
 use std::alloc::AllocError;
 use std::sync::Wait;
 
-#[tactic(auto, using(std::proofs::lemmas::Grind::common_steps, crate::proofs::Starts::starts_in_push))]
+#[tactic(auto)]
 impl<'a, G: Gate> Desk<'a, G> {
     /// Begins a fetch of the authority's robots.txt.
     pub fn begin<R: Wait>(
@@ -41,7 +39,7 @@ impl<'a, G: Gate> Desk<'a, G> {
     {
         // Room for the call under the lock; if memory is refused here, that call asks again.
         let promised = self.promised();
-        let _ = make_room(&mut self.marks, promised, 2);
+        let _ = make_room(&mut self.account, promised, 2);
         let Ok((named, kept)) = copy_twice(authority) else {
             let held = self.lend(rt);
             return Err(self.refuse_begin(&held, authority, moment));
@@ -76,7 +74,7 @@ impl<'a, G: Gate> Desk<'a, G> {
         ensures { DeskBegins self.old held.now authority.now moment (Err result) held.now self.new }
     {
         self.seen = held.guard.entry_count();
-        held.guard.refuse_begin(authority, moment)
+        refused_begin(held.book(), authority, moment)
     }
 
     // Begins a turn with copies of the authority for the mark and the turn.
@@ -92,10 +90,10 @@ impl<'a, G: Gate> Desk<'a, G> {
         ensures { DeskBegins self.old held.old kept moment result held.new self.new }
     {
         let promised = self.promised();
-        let round = &mut *held.guard;
-        let mine = &mut self.mine;
-        let result = begin_round(round, named, kept, moment, mine, &mut self.marks, promised);
-        self.seen = round.entry_count();
+        let counted = &mut *held.guard;
+        let account = &mut self.account;
+        let result = begin_round(counted, named, kept, moment, account, promised);
+        self.seen = counted.entry_count();
         match result {
             Ok(turn) => {
                 self.turns += 1;
@@ -115,7 +113,7 @@ impl<'a, G: Gate> Desk<'a, G> {
         ensures no { self.new.no ≡ self.old.no }
         ensures out { HasOut self.old self.new 0 0 0 0 0 1 }
     {
-        let gate = self.gate;
+        let shared = self.shared;
         let replaced = {
             let mut held = self.lend_when(
                 rt,
@@ -128,7 +126,7 @@ impl<'a, G: Gate> Desk<'a, G> {
             self.arrive_in(&mut held, turn, answer, moment);
             held.guard.take_replaced()
         };
-        gate.tell();
+        shared.tell();
         // An index has megabytes: it is freed outside the lock.
         drop(replaced);
     }
@@ -146,70 +144,61 @@ impl<'a, G: Gate> Desk<'a, G> {
         requires spares { 1 < answer.spares }
         ensures { DeskArrives self.old held.old turn answer moment held.new self.new }
     {
-        let round = &mut *held.guard;
+        let counted = &mut *held.guard;
         let RobotsTurn {
             authority,
             turn,
             desk: _,
             one,
         } = turn;
-        let mut standing = answer;
-        let twin = standing.twin();
-        let life = twin.life();
-        let says = twin.into_said();
-        round.arrive(&authority, turn, one, standing, moment, &mut self.mine);
-        self.seen = round.entry_count();
+        counted.arrive(authority, turn, one, answer, moment, &mut self.account);
+        self.seen = counted.entry_count();
         self.turns -= 1;
-        let last = round.last();
-        self.marks.push_reserved(last.mark(Entry::Arrived {
-            moment: last.moment,
-            authority,
-            turn,
-            says,
-            life,
-        }));
     }
 }
 
-// The book's begin and the mark of its entry, if there is memory for the marks of its turn beside the
-// promised ones.
+// The book's begin and its turn, if there is memory for the marks of the turn beside the promised ones.
 fn begin_round<G: Gate>(
-    round: &mut Round<G>,
+    counted: &mut CountedBook<G>,
     named: Authority,
     kept: Authority,
     moment: u64,
-    mine: &mut Mine<G>,
-    marks: &mut Vec<Mark>,
+    account: &mut Account<G>,
     promised: u64,
 ) -> Result<RobotsTurn<G>, BeginRefusal>
     requires same { named ≡ kept }
     requires few { promised < 2 ^ 63 }
-    requires fits { length marks.old.items + promised ≤ vec_capacity marks.old }
-    ensures begun { BeginsRound round.old kept mine.old marks.old.items moment
-        result round.new mine.new marks.new.items }
-    ensures room { length marks.old.items + promised + 2 * entries_of_ok result
-        ≤ vec_capacity marks.new }
+    requires fits { length account.old.marks + promised ≤ account.old.room }
+    ensures begun { BeginsRound counted.old kept account.old moment
+        result counted.new account.new }
+    ensures room { length account.old.marks + promised + 2 * entries_of_ok result
+        ≤ account.new.room }
 {
-    if make_room(marks, promised, 2).is_err() {
-        return Err(round.refuse_begin(&kept, moment));
+    if make_room(account, promised, 2).is_err() {
+        return Err(refused_begin(counted.book(), &kept, moment));
     }
-    match round.begin(&kept, moment, mine) {
-        Ok((turn, one)) => {
-            let last = round.last();
-            marks.push_reserved(last.mark(Entry::Begun {
-                moment: last.moment,
-                authority: named,
-                turn,
-            }));
-            Ok(RobotsTurn {
-                authority: kept,
-                turn,
-                desk: mine.no,
-                one,
-            })
-        }
+    match counted.begin(&kept, named, moment, account) {
+        Ok((turn, one)) => Ok(RobotsTurn {
+            authority: kept,
+            turn,
+            desk: account.no(),
+            one,
+        }),
         Err(refusal) => Err(refusal),
     }
+}
+
+// The refusal of a begin that ran out of memory before it was made.
+fn refused_begin(book: &Book, authority: &Authority, moment: u64) -> BeginRefusal
+    ensures { Begins book.now authority.now moment (Err result) book.now }
+{
+    if book.is_fetching(authority.text()) {
+        return BeginRefusal::InFlight;
+    }
+    if book.has_room(2) {
+        return BeginRefusal::NoMemory;
+    }
+    BeginRefusal::LogFull
 }
 
 fn copy_twice(authority: &Authority) -> Result<(Authority, Authority), AllocError>

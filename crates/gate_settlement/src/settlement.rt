@@ -6,17 +6,39 @@ ghost use Rattle.gate_settlement.specs.Settling.{IsWholeUnlessSealed, Settles, S
 
 use crate::fit::receipts_fit;
 use crate::started::{has_handed, has_starts};
-use gate_lock::{Gate, GateLock, Held, Receipts};
+use gate_lock::{AtRest, Gate, GateLock, Held, Receipts};
 use std::alloc::{AllocError, Global};
+use std::marker::Model;
 use std::sync::Wait;
 
-/// A settled gate.
-#[derive(Clone, Copy, Debug, PartialEq, Eq)]
-pub struct Settled {
+/// A settled gate. Only a hold of its own lock at which nothing was out makes one.
+#[derive(Drop)]
+pub struct Settled<G: Gate> {
+    rest: AtRest<G>,
+}
+
+impl<G: Gate> Model for Settled<G> {
+    ghost use Rattle.gate_lock.specs.Resting.{Totals};
+
+    ghost Value = { Totals };
+
+    ghost view = { λ settled. settled.rest };
+}
+
+impl<G: Gate> Settled<G> {
     /// How many entries its history has, since the first one of all.
-    pub events: u64,
+    pub fn events(&self) -> u64
+        ensures { result ≡ self.now.events }
+    {
+        self.rest.events()
+    }
+
     /// How many of them are started fetches.
-    pub starts: u64,
+    pub fn starts(&self) -> u64
+        ensures { result ≡ self.now.starts }
+    {
+        self.rest.starts()
+    }
 }
 
 /// Why a gate is not settled, in the order of the tests. Nothing has changed.
@@ -49,7 +71,7 @@ pub fn settle<G: Gate, R: Wait>(
     alloc: Global,
     gate: &GateLock<G>,
     all: &[Receipts<G>],
-) -> Result<Settled, SettleFault>
+) -> Result<Settled<G>, SettleFault>
     ensures settles { SettlesSome all.now result }
     ensures starts { IfOk result (λ settled. settled.starts ≡ starts_of_all all.now) }
     ensures whole { IfOk result (IsWholeUnlessSealed all.now) }
@@ -64,22 +86,20 @@ pub fn settle_in<G: Gate>(
     alloc: Global,
     held: &Held<'_, G>,
     all: &[Receipts<G>],
-) -> Result<Settled, SettleFault>
+) -> Result<Settled<G>, SettleFault>
     ensures settles { Settles held.now all.now result }
     ensures starts { IfOk result (λ settled. settled.starts ≡ starts_of_all all.now) }
 {
-    let book = held.book();
-    if book.unspent_count() > 0 || book.running_count() > 0 || book.flight_count() > 0 {
+    let Some(rest) = held.at_rest() else {
         return Err(SettleFault::StillOut);
-    }
-    let events = book.entry_count();
-    let starts = book.started_count();
+    };
+    let book = held.book();
     let sealed = book.base().entries();
     if !receipts_fit(alloc, sealed, book.history(), all)?
-        || !has_starts(all, starts)
+        || !has_starts(all, rest.starts())
         || !has_handed(all, sealed)
     {
         return Err(SettleFault::Mismatch);
     }
-    Ok(Settled { events, starts })
+    Ok(Settled { rest })
 }

@@ -1,5 +1,9 @@
 //! Why no response came over TCP, as far as the system knows.
 //! For reports to operators on why a site is closed or a page was not fetched.
+ghost use Rattle.std.specs.Prelude.{◌≡◌};
+ghost use Rattle.http_wire.specs.declared.fault.WireFault.TheVariants.{Device};
+
+use http_wire::{HttpReply, WireFault};
 use std::io::ErrorKind;
 use std::time::Duration;
 
@@ -47,5 +51,25 @@ impl Failure {
             | ErrorKind::UnexpectedEof => Failure::Reset,
             _ => Failure::Other,
         }
+    }
+}
+
+/// The device's fault for this failure.
+pub(crate) fn fault_for(why: Failure, failure: &mut Option<Failure>) -> WireFault
+    ensures { result ≡ Device }
+{
+    *failure = Some(why);
+    WireFault::Device
+}
+
+/// Why an exchange through the TLS program gave nothing, after this failure or none.
+pub(crate) fn unheard(
+    given: &Result<HttpReply, WireFault>,
+    told: Option<Failure>,
+) -> Option<Failure> {
+    match (given, told) {
+        (Err(WireFault::EarlyEnd), None) => Some(Failure::NoTls),
+        (Err(WireFault::Device), Some(Failure::Reset)) => Some(Failure::NoTls),
+        _ => told,
     }
 }

@@ -8,6 +8,7 @@ mod failure;
 mod heard;
 mod host_port;
 mod http_exchange;
+mod network;
 mod own_address;
 mod reach;
 mod special_blocks;

@@ -1,18 +1,19 @@
 //! Pages fetched over TCP, each over a connection of its own.
-ghost use Rattle.std.specs.Prelude.{◌≡◌, [], None, IfOk};
+ghost use Rattle.std.specs.Prelude.{◌≡◌, [], None, IfOk, false, true};
+ghost use Rattle.std.specs.Net.Socket.{socket_ip};
+ghost use Rattle.path_normal.specs.PageText.{is_https};
 ghost use Rattle.http_wire.specs.Response.{Tells};
-ghost use Rattle.http_wire.specs.declared.fault.WireFault.TheVariants.{Device};
 ghost use Rattle.http_client.specs.Agent.{IsAgent};
+ghost use Rattle.http_client.specs.Reach.{MayReach};
 ghost use Rattle.http_client.specs.declared.reach.Reach.TheVariants.{Anywhere};
 
 use crate::address_block::AddressBlock;
 use crate::deadline::Deadline;
-use crate::failure::Failure;
+use crate::failure::{Failure, fault_for, unheard};
 use crate::heard::{Heard, Nothing};
-use crate::host_port::host_port_of;
 use crate::http_exchange::exchange;
-use crate::own_address::may_be_own;
-use crate::reach::{Reach, Way};
+use crate::network::{Network, Way};
+use crate::reach::Reach;
 use crate::time_limits::TimeLimits;
 use crate::timed_stream::TimedStream;
 use crate::tls_exchange::exchange_through;
@@ -22,19 +23,17 @@ use http_wire::{HttpReply, WireFault};
 use path_normal::PageUrl;
 use std::alloc::Global;
 use std::marker::Model;
-use std::net::{Net, SocketAddr, TcpStream, ToSocketAddrs};
+use std::net::{Net, SocketAddr, TcpStream};
 use std::sync::atomic::{AtomicBool, Ordering};
+use std::time::Duration;
 use std::{io, time};
 
 /// Fetches pages over TCP. It keeps no connection, and follows no redirect. Another program does TLS: it
 /// reads a PROXY protocol header, opens TLS to the address there, and forwards octets.
 #[derive(Drop)]
 pub struct TcpClient<R: Net<Stream = TcpStream> + time::Clock> {
-    rt: R,
+    network: Network<R>,
     limits: TimeLimits,
-    reach: Reach,
-    not_to: Option<Vec<AddressBlock>>,
-    tls_by: Option<SocketAddr>,
     stopped: AtomicBool,
 }
 
@@ -48,15 +47,15 @@ struct Asked<'a> {
 }
 
 impl<R: Net<Stream = TcpStream> + time::Clock> Model for TcpClient<R> {
-    ghost use Rattle.http_client.specs.Clients.{ClientView, blocks_of};
+    ghost use Rattle.http_client.specs.Clients.{ClientView};
 
     ghost Value = { ClientView };
 
     ghost view = { λ client. record {
       limits = client.limits;
-      reach = client.reach;
-      not_to = blocks_of client.not_to;
-      tls_by = client.tls_by;
+      reach = client.network.reach;
+      not_to = client.network.not_to;
+      tls_by = client.network.tls_by;
     } };
 }
 
@@ -92,11 +91,8 @@ impl<R: Net<Stream = TcpStream> + time::Clock> TcpClient<R> {
         ensures { result ≡ record { limits = limits; reach = reach; not_to = []; tls_by = tls_by } }
     {
         TcpClient {
-            rt,
+            network: Network::new(rt, reach, tls_by),
             limits,
-            reach,
-            not_to: None,
-            tls_by,
             stopped: AtomicBool::new(false),
         }
     }
@@ -106,25 +102,16 @@ impl<R: Net<Stream = TcpStream> + time::Clock> TcpClient<R> {
     pub fn avoiding(self, not_to: Vec<AddressBlock>) -> TcpClient<R>
     where
         R: Drop,
-        ensures not_to { result.not_to ≡ not_to.items }
-        ensures limits { result.limits ≡ self.limits }
-        ensures reach { result.reach ≡ self.reach }
-        ensures tls { result.tls_by ≡ self.tls_by }
+        ensures { result ≡ record self { not_to = not_to.items } }
     {
         let TcpClient {
-            rt,
+            network,
             limits,
-            reach,
-            not_to: _,
-            tls_by,
             stopped,
         } = self;
         TcpClient {
-            rt,
+            network: network.avoiding(not_to),
             limits,
-            reach,
-            not_to: Some(not_to),
-            tls_by,
             stopped,
         }
     }
@@ -139,7 +126,7 @@ impl<R: Net<Stream = TcpStream> + time::Clock> TcpClient<R> {
     pub fn begin(&self) -> io::Result<Deadline>
         ensures { IfOk result (λ deadline. deadline.whole ≡ self.now.limits.whole) }
     {
-        Deadline::begin(&self.rt, self.limits.whole)
+        self.network.begin(self.limits.whole)
     }
 
     /// Fetches a page, with at most `limit` octets of its body. `agent` is the value of User-Agent.
@@ -195,13 +182,15 @@ impl<R: Net<Stream = TcpStream> + time::Clock> TcpClient<R> {
         }
     }
 
+    // Fetches a page of http from the first address of its server that is within reach and accepts.
     fn fetch_straight(
         &self,
         alloc: Global,
         asked: &Asked<'_>,
         failure: &mut Option<Failure>,
     ) -> Result<HttpReply, WireFault>
-        requires { IsAgent asked.now.agent.now }
+        requires plain { is_https asked.now.url.now ≡ false }
+        requires agent { IsAgent asked.now.agent.now }
         ensures { Tells None asked.now.limit result }
     {
         let stream = match self.connect(asked.url, &asked.deadline) {
@@ -222,30 +211,30 @@ impl<R: Net<Stream = TcpStream> + time::Clock> TcpClient<R> {
         given
     }
 
-    // Fetches from the first address of the page's server that is within reach and sends an octet.
+    // Fetches a page of https from the first address of its server that is within reach and sends an octet.
     fn fetch_by_tls(
         &self,
         alloc: Global,
         asked: &Asked<'_>,
         failure: &mut Option<Failure>,
     ) -> Result<HttpReply, WireFault>
-        requires { IsAgent asked.now.agent.now }
+        requires https { is_https asked.now.url.now ≡ true }
+        requires agent { IsAgent asked.now.agent.now }
         ensures { Tells None asked.now.limit result }
     {
-        let Some(program) = self.tls_by else {
+        if !self.network.has_tls() {
             return Err(fault_for(Failure::NoTlsProgram, failure));
-        };
-        let server = host_port_of(asked.url);
-        let Ok(addresses) = (server.host, server.port).to_socket_addrs(&self.rt) else {
+        }
+        let Ok(addresses) = self.network.addresses_of(asked.url) else {
             return Err(fault_for(Failure::NoName, failure));
         };
         let mut last = fault_for(Failure::NoName, failure);
         for address in addresses {
-            let Some(way) = self.way_to(address) else {
+            let Some(way) = self.network.way_to(address) else {
                 last = fault_for(Failure::Unreachable, failure);
                 continue;
             };
-            match self.fetch_over(alloc, &program, &way, asked, failure) {
+            match self.fetch_over(alloc, &way, asked, failure) {
                 Err(fault) if *failure == Some(Failure::NoTls) => last = fault,
                 ended => return ended,
             }
@@ -258,21 +247,21 @@ impl<R: Net<Stream = TcpStream> + time::Clock> TcpClient<R> {
     fn fetch_over(
         &self,
         alloc: Global,
-        program: &SocketAddr,
-        way: &Way<'_>,
+        way: &Way,
         asked: &Asked<'_>,
         failure: &mut Option<Failure>,
     ) -> Result<HttpReply, WireFault>
-        requires { IsAgent asked.now.agent.now }
+        requires way { MayReach self.now.reach self.now.not_to (socket_ip way.now.address) }
+        requires agent { IsAgent asked.now.agent.now }
         ensures { Tells None asked.now.limit result }
     {
         *failure = None;
-        let header = match tls_header_of(alloc, asked.url, way.address.ip()) {
+        let header = match tls_header_of(alloc, asked.url, way.ip()) {
             Ok(header) => header,
             Err(TlsHeaderFault::NoMemory) => return Err(WireFault::NoMemory),
             Err(TlsHeaderFault::LongName) => return Err(fault_for(Failure::NoName, failure)),
         };
-        let stream = match self.connect_program(program, &asked.deadline) {
+        let stream = match self.connect_program(&asked.deadline) {
             Ok(stream) => stream,
             Err(why) => return Err(fault_for(why, failure)),
         };
@@ -298,13 +287,12 @@ impl<R: Net<Stream = TcpStream> + time::Clock> TcpClient<R> {
     // Connects to the first address of the page's server that is within reach and accepts. The address
     // checked is the one connected to, even if the name changes.
     fn connect(&self, url: &PageUrl, deadline: &Deadline) -> Result<TcpStream, Failure> {
-        let server = host_port_of(url);
-        let Ok(addresses) = (server.host, server.port).to_socket_addrs(&self.rt) else {
+        let Ok(addresses) = self.network.addresses_of(url) else {
             return Err(Failure::NoName);
         };
         let mut last = Failure::NoName;
         for address in addresses {
-            let Some(way) = self.way_to(address) else {
+            let Some(way) = self.network.way_to(address) else {
                 last = Failure::Unreachable;
                 continue;
             };
@@ -316,47 +304,34 @@ impl<R: Net<Stream = TcpStream> + time::Clock> TcpClient<R> {
         Err(last)
     }
 
-    // The way to an address, if within reach. One of this machine is not of the public internet.
-    fn way_to(&self, address: SocketAddr) -> Option<Way<'_>> {
-        let way = Way::to(self.reach, self.not_to(), address)?;
-        if self.reach == Reach::PublicOnly && may_be_own(&self.rt, address) {
-            return None;
-        }
-        Some(way)
-    }
-
-    fn not_to(&self) -> &[AddressBlock]
-        ensures { result.now ≡ self.now.not_to }
+    fn connect_to(&self, way: &Way, deadline: &Deadline) -> Result<TcpStream, Failure>
+        requires { MayReach self.now.reach self.now.not_to (socket_ip way.now.address) }
     {
-        match &self.not_to {
-            Some(blocks) => blocks.as_slice(),
-            None => &[],
-        }
-    }
-
-    fn connect_to(&self, way: &Way<'_>, deadline: &Deadline) -> Result<TcpStream, Failure> {
-        self.connect_at(&way.address, deadline)
-    }
-
-    fn connect_program(
-        &self,
-        program: &SocketAddr,
-        deadline: &Deadline,
-    ) -> Result<TcpStream, Failure> {
-        match self.connect_at(program, deadline) {
+        let (most, past) = self.patience(deadline)?;
+        match self.network.connect(way, most) {
             Ok(stream) => Ok(stream),
-            Err(Failure::Stopped) => Err(Failure::Stopped),
-            Err(Failure::TooLong(limit)) => Err(Failure::TooLong(limit)),
-            Err(_) => Err(Failure::NoTlsProgram),
+            Err(error) => Err(Failure::of(error.kind(), past)),
         }
     }
 
-    fn connect_at(&self, address: &SocketAddr, deadline: &Deadline) -> Result<TcpStream, Failure> {
+    fn connect_program(&self, deadline: &Deadline) -> Result<TcpStream, Failure> {
+        let (most, past) = self.patience(deadline)?;
+        match self.network.connect_program(most) {
+            Ok(stream) => Ok(stream),
+            Err(error) => match Failure::of(error.kind(), past) {
+                Failure::TooLong(limit) => Err(Failure::TooLong(limit)),
+                _ => Err(Failure::NoTlsProgram),
+            },
+        }
+    }
+
+    // How long a connection may take to be made, and the failure if it takes longer.
+    fn patience(&self, deadline: &Deadline) -> Result<(Duration, Failure), Failure> {
         if self.stopped.load(Ordering::SeqCst) {
             return Err(Failure::Stopped);
         }
         let most = self.limits.connect;
-        let Ok(left) = deadline.left(&self.rt, most) else {
+        let Ok(left) = self.network.left(deadline, most) else {
             return Err(Failure::TooLong(deadline.whole));
         };
         let past = if left < most {
@@ -364,10 +339,7 @@ impl<R: Net<Stream = TcpStream> + time::Clock> TcpClient<R> {
         } else {
             Failure::NotConnected(most)
         };
-        match TcpStream::connect_timeout(&self.rt, address, left) {
-            Ok(stream) => Ok(stream),
-            Err(error) => Err(Failure::of(error.kind(), past)),
-        }
+        Ok((left, past))
     }
 
     fn timed<'a>(
@@ -378,32 +350,7 @@ impl<R: Net<Stream = TcpStream> + time::Clock> TcpClient<R> {
         ensures step { result.step ≡ self.now.limits.step }
         ensures deadline { result.deadline ≡ deadline }
     {
-        TimedStream {
-            rt: &self.rt,
-            stream,
-            deadline,
-            step: self.limits.step,
-            stopped: &self.stopped,
-            read_limit: None,
-            write_limit: None,
-            failure: None,
-        }
-    }
-}
-
-// The device's fault for this failure.
-fn fault_for(why: Failure, failure: &mut Option<Failure>) -> WireFault
-    ensures { result ≡ Device }
-{
-    *failure = Some(why);
-    WireFault::Device
-}
-
-// Why an exchange through the TLS program gave nothing, after this failure or none.
-fn unheard(given: &Result<HttpReply, WireFault>, told: Option<Failure>) -> Option<Failure> {
-    match (given, told) {
-        (Err(WireFault::EarlyEnd), None) => Some(Failure::NoTls),
-        (Err(WireFault::Device), Some(Failure::Reset)) => Some(Failure::NoTls),
-        _ => told,
+        let step = self.limits.step;
+        self.network.timed(stream, deadline, step, &self.stopped)
     }
 }

@@ -10,7 +10,7 @@ pub enum JournalFault {
     Device(Option<io::Error>),
     /// The disk, or what the owner may have of it, has no room for these octets of the next file.
     NoRoom(u64),
-    /// No memory for the entries' text.
+    /// No memory for a file's name, or for what is allocated at the start.
     NoMemory,
     /// The entries don't continue where the journal ends: another call sealed them.
     Elsewhere,

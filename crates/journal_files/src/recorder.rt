@@ -102,9 +102,9 @@ pub struct Abreast<'a, H: Chronicle, J: Recorder, R: Wait> {
 }
 
 impl<'a, H: Chronicle, J: Recorder, R: Wait> ComesUp for Abreast<'a, H, J, R> {
-    ghost comes = { λ _ _. ⊤ };
+    ghost comes = { λ _ _ _. ⊤ };
 
-    fn come_up(&self) -> Result<(), DeviceFault> {
+    fn come_up(&self, _number: u64) -> Result<(), DeviceFault> {
         self.journal.come_up(self.rt, self.chronicle)
     }
 }

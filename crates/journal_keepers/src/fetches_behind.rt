@@ -10,6 +10,9 @@ use http_wire::{HttpReply, WireFault};
 use journal_tape::ComesUp;
 use path_normal::Schemes;
 
+// The number of each call: there is no place here to keep the result of one for another.
+const ANY_NUMBER: u64 = 0;
+
 /// A fetcher, and what precedes each fetch.
 #[derive(Drop)]
 pub struct FetchesBehind<'a, A, F> {
@@ -23,7 +26,7 @@ impl<'a, A: ComesUp, F: Fetcher> Fetcher for FetchesBehind<'a, A, F> {
     ghost use Rattle.journal_keepers.specs.Fetching.{GivesBehind};
 
     ghost gives = { λ behind limit url reply.
-        GivesBehind (A.comes behind.ahead) (F.gives behind.fetcher.now limit url) reply };
+        GivesBehind (A.comes behind.ahead 0) (F.gives behind.fetcher.now limit url) reply };
 
     ghost follows = { λ behind. F.follows behind.fetcher.now };
 
@@ -54,7 +57,7 @@ impl<'a, A: ComesUp, F: Fetcher> Fetcher for FetchesBehind<'a, A, F> {
         limit: usize,
         failure: &mut Option<Failure>,
     ) -> Result<HttpReply, WireFault> {
-        match self.ahead.come_up() {
+        match self.ahead.come_up(ANY_NUMBER) {
             Ok(()) => self.fetcher.load_page(leave, limit, failure),
             Err(fault) => leave_page(leave, fault),
         }
@@ -67,7 +70,7 @@ impl<'a, A: ComesUp, F: Fetcher> Fetcher for FetchesBehind<'a, A, F> {
         time: Option<Deadline>,
         failure: &mut Option<Failure>,
     ) -> Result<HttpReply, WireFault> {
-        match self.ahead.come_up() {
+        match self.ahead.come_up(ANY_NUMBER) {
             Ok(()) => self.fetcher.load_robots(leave, time, failure),
             Err(fault) => leave_file(leave, fault),
         }

@@ -16,6 +16,10 @@ sink_of behind = behind.sink
 abbrev pub failures_of : {A W : Type 0} → Behind A W → ℕ
 failures_of behind = behind.failures
 
+-- the number of the next write, modulo 2^64
+abbrev pub number_of : {A W : Type 0} → Behind A W → ℕ
+number_of behind = behind.number
+
 -- how many calls of a file failed, modulo 2^64
 abbrev pub file_failures : {F : Type 0} → FileTape F → ℕ
 file_failures tape = tape.failures

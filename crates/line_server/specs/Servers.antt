@@ -6,7 +6,7 @@ use Rattle.client_connections.specs.declared.connections.Connections.{Connection
 use Rattle.client_connections.specs.declared.connections.Connections.TheVariants.{AtMost, Endless}
 use Rattle.gate_marks.specs.Marks.{Receipt}
 use Rattle.gate_settlement.specs.Settling.{IsWholeUnlessSealed, SettlesSome}
-use Rattle.gate_settlement.specs.declared.settlement.Settled.{Settled}
+use Rattle.gate_lock.specs.Resting.{Totals}
 use Rattle.job_line.specs.Covers.{SeatView, jobs_of}
 use Rattle.job_line.specs.Limits.{max_workers}
 
@@ -20,11 +20,9 @@ abbrev pub Draws : SeatView → SeatView → Bool → Type 0
 Draws seat seat2 true = (n : ℕ) × ((n < jobs_of seat) × (seat2 ≡ record seat { drawn = seat.drawn ++ n ∷ [] }))
 Draws seat seat2 false = seat2 ≡ record seat { ended = set seat.ended 0 true }
 
--- these receipts settled a gate with this many entries, and are a whole history if nothing was handed out
-abbrev pub IsServed : List Receipt → ℕ → Type 0
-IsServed receipts events =
-    (settled : Settled) ×
-    ((settled.events ≡ events) × SettlesSome receipts (Ok settled) × IsWholeUnlessSealed receipts settled)
+-- these receipts settled a gate to these totals, and are a whole history if nothing was handed out
+abbrev pub IsServed : List Receipt → Totals → Type 0
+IsServed receipts settled = SettlesSome receipts (Ok settled) × IsWholeUnlessSealed receipts settled
 
 -- these end the list of receipts
 abbrev pub HasLast : Receipt → List Receipt → Type 0

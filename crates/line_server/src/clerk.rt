@@ -27,8 +27,7 @@ impl<'a, 'g, G: Gate, J: Recorder, R: Wait> Clerk<'a, 'g, G, J, R> {
         alloc: Global,
         recorded: &'g Recorded<'a, G, J, R>,
     ) -> Result<Clerk<'a, 'g, G, J, R>, DesksFull> {
-        let chronicle = &recorded.chronicle;
-        let sealer = DeskSealer::open(chronicle.rt, alloc, chronicle.gate)?;
+        let sealer = DeskSealer::open(recorded.chronicle.rt, alloc, recorded.gate)?;
         Ok(Clerk {
             recorded,
             sealer,

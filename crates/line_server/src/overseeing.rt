@@ -48,7 +48,7 @@ impl<F: Fetcher, C: NumberedClock, A: Alarm, R: Wait + time::Clock> Server<'_, F
         left: &AtomicU64,
         fetcher: &B,
     ) -> Result<Receipts<G>, ServeFault> {
-        let keeper = DeskKeeper::open(self.rt, self.alloc, recorded.chronicle.gate, fetcher)?;
+        let keeper = DeskKeeper::open(self.rt, self.alloc, recorded.gate, fetcher)?;
         let (keeper, ended) = self.oversee_with(recorded, listener, left, keeper);
         let receipts = keeper.close();
         ended?;
@@ -67,6 +67,7 @@ impl<F: Fetcher, C: NumberedClock, A: Alarm, R: Wait + time::Clock> Server<'_, F
             chronicle,
             journal,
             visits,
+            ..
         } = recorded;
         let mut keeper = RecordedKeeper::new(self.rt, chronicle, *journal, visits, keeper);
         let ended = self.take_overseers(recorded, listener, left, &mut keeper);

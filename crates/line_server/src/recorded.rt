@@ -1,7 +1,7 @@
 //! A gate with its journal: no reply and no fetch goes past what is recorded.
 //! Without a journal nothing has to be recorded first.
 use gate_journal::Recording;
-use gate_lock::Gate;
+use gate_lock::{Gate, GateLock};
 use journal_files::{Abreast, Recorder};
 use keepers::Visits;
 use std::sync::Wait;
@@ -9,6 +9,7 @@ use std::sync::Wait;
 /// A gate, its journal, and the clients of its server.
 #[derive(Drop)]
 pub(crate) struct Recorded<'a, G: Gate, J: Recorder, R: Wait> {
+    pub(crate) gate: &'a GateLock<G>,
     pub(crate) chronicle: Recording<'a, G, R>,
     pub(crate) journal: &'a J,
     pub(crate) visits: Visits,

@@ -34,7 +34,7 @@ impl<F: Fetcher, C: NumberedClock, A: Alarm, R: Wait + time::Clock> Server<'_, F
             clock: self.clock,
             number: 0,
         };
-        let mut keeper = DeskKeeper::open(self.rt, self.alloc, recorded.chronicle.gate, &fetcher)?;
+        let mut keeper = DeskKeeper::open(self.rt, self.alloc, recorded.gate, &fetcher)?;
         for site in sites {
             if left.load(Ordering::SeqCst) == 0 {
                 break;

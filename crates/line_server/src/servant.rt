@@ -57,7 +57,7 @@ impl<F: Fetcher, C: NumberedClock, A: Alarm, R: Wait + time::Clock> Server<'_, F
         numbers: ConnectionNumbers<'_>,
         fetcher: &B,
     ) -> Result<(u64, Receipts<G>), ServeFault> {
-        let gate = recorded.chronicle.gate;
+        let gate = recorded.gate;
         let keeper = DeskKeeper::open_within(self.rt, self.alloc, gate, fetcher, self.bounds)?;
         let mut taken = 0;
         let (keeper, ended) = self.man_with(recorded, numbers, keeper, &mut taken);
@@ -78,6 +78,7 @@ impl<F: Fetcher, C: NumberedClock, A: Alarm, R: Wait + time::Clock> Server<'_, F
             chronicle,
             journal,
             visits,
+            ..
         } = recorded;
         let mut keeper = RecordedKeeper::new(self.rt, chronicle, *journal, visits, keeper);
         let ended = self.take_all(recorded, &mut numbers, &mut keeper, taken);

@@ -13,7 +13,7 @@ use desk_pool::{Pool, Returned};
 use fetchers::Fetcher;
 use gate_journal::Recording;
 use gate_lock::{Gate, GateLock, Receipts};
-use gate_settlement::settle;
+use gate_settlement::{Settled, settle};
 use job_line::JobLine;
 use journal_files::{Recorder, Unrecorded};
 use keepers::{Bounds, Visits};
@@ -54,9 +54,9 @@ pub struct Server<'a, F, C, A, R> {
 pub struct Served<G: Gate> {
     /// Accepted connections.
     pub connections: u64,
-    /// Entries of the history.
-    pub events: u64,
-    /// The desks' receipts that settled the gate.
+    /// The gate, settled.
+    pub settled: Settled<G>,
+    /// The desks' receipts that settled it.
     pub receipts: Vec<Receipts<G>>,
 }
 
@@ -82,7 +82,7 @@ impl<
     /// clients' faults don't affect the gate.
     pub fn run<G: Gate + Send + Sync>(&self, gate: &GateLock<G>) -> Result<Served<G>, ServeFault>
         requires { IsCrew self.now.workers }
-        ensures { IfOk result (λ served. IsServed served.receipts.items served.events) }
+        ensures { IfOk result (λ served. IsServed served.receipts.items served.settled) }
     {
         self.run_recorded(gate, &Unrecorded)
     }
@@ -96,7 +96,7 @@ impl<
         journal: &J,
     ) -> Result<Served<G>, ServeFault>
         requires { IsCrew self.now.workers }
-        ensures { IfOk result (λ served. IsServed served.receipts.items served.events) }
+        ensures { IfOk result (λ served. IsServed served.receipts.items served.settled) }
     {
         let (connections, receipts) = self.serve_gate(gate, journal, &[])?;
         self.settle_served(gate, connections, receipts)
@@ -113,7 +113,7 @@ impl<
         journal: &J,
     ) -> Result<Served<G>, ServeFault>
         requires { IsCrew self.now.workers }
-        ensures served { IfOk result (λ served. IsServed served.receipts.items served.events) }
+        ensures served { IfOk result (λ served. IsServed served.receipts.items served.settled) }
         ensures past { IfOk result (λ served. HasLast past served.receipts.items) }
     {
         let (connections, mut receipts) = self.serve_gate(gate, journal, begun)?;
@@ -133,9 +133,10 @@ impl<
         let chronicle = Recording {
             alloc: self.alloc,
             rt: self.rt,
-            gate,
+            shared: gate.shared(),
         };
         let recorded = Recorded {
+            gate,
             chronicle,
             journal,
             visits: Visits::new(),
@@ -164,13 +165,13 @@ impl<
         connections: u64,
         receipts: Vec<Receipts<G>>,
     ) -> Result<Served<G>, ServeFault>
-        ensures served { IfOk result (λ served. IsServed served.receipts.items served.events) }
+        ensures served { IfOk result (λ served. IsServed served.receipts.items served.settled) }
         ensures same { IfOk result (λ served. served.receipts.items ≡ receipts.items) }
     {
         let settled = settle(self.rt, self.alloc, gate, &receipts)?;
         Ok(Served {
             connections,
-            events: settled.events,
+            settled,
             receipts,
         })
     }

@@ -54,10 +54,10 @@ impl<F: Fetcher, C: NumberedClock, A: Alarm, R: Wait + time::Clock> Server<'_, F
         left: &AtomicU64,
     ) -> Result<(Receipts<G>, Receipts<G>), ServeFault>
         ensures swept { IfOk result (λ both. IsSwept (C.reads self.now.clock.now)
-            recorded.now.chronicle.gate.now both.0) }
+            recorded.now.gate.now both.0) }
     {
         let mut clerk = Clerk::open(self.alloc, recorded)?;
-        let swept = self.sweep_all(recorded.chronicle.gate, &mut clerk, left);
+        let swept = self.sweep_all(recorded.gate, &mut clerk, left);
         let sealed = clerk.close();
         Ok((swept?, sealed))
     }

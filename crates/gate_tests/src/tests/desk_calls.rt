@@ -7,7 +7,7 @@ use super::gates::PAGE;
 use authority_cache::{LIFE, TimedAnswer};
 use gate_core::{AskRefusal, BeginRefusal};
 use gate_lock::{Desk, DeskAsk, DesksFull, Gate, GateLock, Permit, Receipts, RobotsTurn};
-use gate_settlement::{SettleFault, Settled, settle};
+use gate_settlement::{SettleFault, settle};
 use path_normal::{Authority, PageUrl};
 use robots_text::Token;
 use robots_verdict::{Answer, Opening};
@@ -133,7 +133,21 @@ fn bring_for<G: Gate, R: Wait>(
 }
 
 // The settlement before and after a permit is given back.
-type Settlements = [Result<Settled, SettleFault>; 2];
+type Settlements = [Totals; 2];
+
+// A settlement's events and starts, or its fault.
+pub(super) type Totals = Result<(u64, u64), SettleFault>;
+
+// Settles a gate by these receipts.
+pub(super) fn totals<G: Gate, R: Wait>(
+    rt: &R,
+    alloc: Global,
+    gate: &GateLock<G>,
+    all: &[Receipts<G>],
+) -> Totals {
+    let settled = settle(rt, alloc, gate, all)?;
+    Ok((settled.events(), settled.starts()))
+}
 
 // A desk that asks for the page, gives the permit back, and closes: its receipts are added. Returns the
 // settlement without them.
@@ -166,9 +180,9 @@ fn settlements<G: Gate, R: Wait>(
     ensures { KeepsOut desk.old desk.new }
 {
     let permit = granted(rt, alloc, desk, form, page)?;
-    let before = settle(rt, alloc, gate, others);
+    let before = totals(rt, alloc, gate, others);
     desk.back(rt, permit);
-    let after = settle(rt, alloc, gate, others);
+    let after = totals(rt, alloc, gate, others);
     Some([before, after])
 }
 

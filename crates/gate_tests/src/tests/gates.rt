@@ -3,12 +3,12 @@
 ghost use Rattle.std.specs.Prelude.{◌≡◌, ◌≤◌, [], IfOk};
 ghost use Rattle.gate_history.specs.Base.{empty_base};
 
-use super::desk_calls::{CallForm, bring, give_back};
+use super::desk_calls::{CallForm, Totals, bring, give_back, totals};
 use authority_cache::{LIFE, TurnNo};
 use gate_core::{Book, Config, Limits, NoMemory};
 use gate_history::{Entry, FetchText};
 use gate_lock::{Gate, GateLock, Receipts, marks_fit};
-use gate_settlement::{SettleFault, Settled, Visit, receipts_fit, settle, with_gate};
+use gate_settlement::{SettleFault, Visit, receipts_fit, with_gate};
 use path_normal::{Authority, PageUrl};
 use permit_book::PermitNo;
 use robots_text::Token;
@@ -41,7 +41,7 @@ pub(super) fn book(
 
 // What a gate of two desks shows: its settlements with a permit outstanding, without the last desk's receipts, and
 // with all; and whether the marks of both desks, and their receipts, are the entries of an ask for the page.
-type Shown = ([Result<Settled, SettleFault>; 3], [bool; 2]);
+type Shown = ([Totals; 3], [bool; 2]);
 
 // Settles a gate twice too early, and then by both desks' receipts.
 #[derive(Drop)]
@@ -71,7 +71,7 @@ fn settle_with<G: Gate, R: Wait>(
 ) -> Result<Shown, Fail> {
     bring(rt, alloc, gate, form, all)?;
     let [before, after] = give_back(rt, alloc, gate, form, page, all)?;
-    let both = settle(rt, alloc, gate, all.as_slice());
+    let both = totals(rt, alloc, gate, all.as_slice());
     Ok(([before, after, both], are_fit(alloc, all.as_slice())?))
 }
 
@@ -180,15 +180,11 @@ fn shown<R: Wait>(
     with_gate(book(alloc, keys, 1_024, 65_536)?, row)
 }
 
-fn is_settled(settled: [Result<Settled, SettleFault>; 3]) -> bool {
-    let all = Settled {
-        events: 4,
-        starts: 0,
-    };
+fn is_settled(settled: [Totals; 3]) -> bool {
     settled
         == [
             Err(SettleFault::StillOut),
             Err(SettleFault::Mismatch),
-            Ok(all),
+            Ok((4, 0)),
         ]
 }

@@ -2,12 +2,12 @@
 //! RFC 9309, sections 2.2 and 2.4.
 ghost use Rattle.std.specs.Prelude.{◌≡◌, ◌^◌, ◌<◌, [], true};
 
-use super::desk_calls::{rounds, worked};
+use super::desk_calls::{Totals, rounds, totals, worked};
 use super::gates::{PAGE, book};
 use super::indexes::load;
 use gate_core::Book;
 use gate_lock::{Blanks, Gate, GateLock, Receipts};
-use gate_settlement::{SettleFault, Settled, settle};
+use gate_settlement::SettleFault;
 use path_normal::PageUrl;
 use permit_book::PermitNo;
 use robots_text::Token;
@@ -18,7 +18,7 @@ use std::sync::Wait;
 use std::test::Fail;
 
 // The settlement without the earlier receipts, and with them.
-type Settlements = [Result<Settled, SettleFault>; 2];
+type Settlements = [Totals; 2];
 
 // A book with five sealed entries, of a turn and a fetch.
 fn sealed_book(alloc: Global, keys: RandomState) -> Result<Book, Fail> {
@@ -100,9 +100,9 @@ fn settlements<G: Gate, R: Wait>(
     desk.condense(rt);
     all.push(desk.close())?;
     sealed?;
-    let without = settle(rt, alloc, gate, all.as_slice());
+    let without = totals(rt, alloc, gate, all.as_slice());
     all.push(past)?;
-    Ok([without, settle(rt, alloc, gate, all.as_slice())])
+    Ok([without, totals(rt, alloc, gate, all.as_slice())])
 }
 
 fn settled_behind_a_seal<R: Wait>(
@@ -120,11 +120,7 @@ fn settled_behind_a_seal<R: Wait>(
 #[test]
 fn a_gate_goes_on_from_a_base(rt: HostRuntime) -> Result<(), Fail> {
     let got = settled_behind_a_seal(&rt, rt.alloc(), RandomState::new(&rt)?)?;
-    let want = Settled {
-        events: 605,
-        starts: 201,
-    };
-    if got == [Err(SettleFault::Mismatch), Ok(want)] {
+    if got == [Err(SettleFault::Mismatch), Ok((605, 201))] {
         Ok(())
     } else {
         Err(Fail::new("settled behind a seal"))

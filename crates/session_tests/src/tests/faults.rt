@@ -6,7 +6,7 @@ use command_server::{DeskKeeper, SessionFault, serve};
 use counted_io::FailAt;
 use gate_core::Limits;
 use gate_lock::{Gate, GateLock};
-use gate_settlement::{SettleFault, Settled, Visit, settle, with_gate};
+use gate_settlement::{SettleFault, Visit, settle, with_gate};
 use scripted_sites::{FixedClock, ScriptedSites, new_book};
 use std::alloc::Global;
 use std::random::RandomSource;
@@ -43,7 +43,8 @@ impl<R: Wait> Visit for FaultRow<'_, R> {
     }
 }
 
-type Ended = (Result<(), SessionFault>, Result<Settled, SettleFault>);
+// How a session ended, and its gate's events and starts, if that is settled.
+type Ended = (Result<(), SessionFault>, Result<(u64, u64), SettleFault>);
 
 fn session_at<G: Gate, R: Wait>(
     rt: &R,
@@ -60,7 +61,11 @@ fn session_at<G: Gate, R: Wait>(
     let mut keeper = DeskKeeper::open(rt, alloc, gate, &sites)?;
     let end = serve(alloc, reader, writer, &mut keeper, &FixedClock(110));
     all.push_reserved(keeper.close());
-    Ok((end, settle(rt, alloc, gate, all.as_slice())))
+    let totals = match settle(rt, alloc, gate, all.as_slice()) {
+        Ok(settled) => Ok((settled.events(), settled.starts())),
+        Err(fault) => Err(fault),
+    };
+    Ok((end, totals))
 }
 
 fn ended<R: Wait + RandomSource>(
@@ -93,11 +98,11 @@ fn reads_that_fail(rt: HostRuntime) -> Result<(), Fail> {
     Ok(())
 }
 
-// The gate's settlement if the write after so many octets fails. The line after a reply is read once that
+// The gate's events and starts if the write after so many octets fails. The line after a reply is read once that
 // is written, so the lines answered are those up to the one whose reply has that octet; what they left out
 // is given back.
-fn settled_to(written: u64) -> Settled {
-    let (events, starts) = match written {
+fn settled_to(written: u64) -> (u64, u64) {
+    match written {
         // The answer.
         0..=20 => (2, 0),
         // A permit, given back.
@@ -106,8 +111,7 @@ fn settled_to(written: u64) -> Settled {
         34..=46 => (6, 0),
         // A fetch, started and ended.
         _ => (7, 1),
-    };
-    Settled { events, starts }
+    }
 }
 
 #[test]

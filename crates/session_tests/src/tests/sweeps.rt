@@ -94,7 +94,7 @@ fn serve_two<'x, G: Gate + Send + Sync, R: Threads + Wait + time::Clock + Sync>(
         bounds: Bounds::none(),
     };
     match server.run(&gate) {
-        Ok(served) => Ok(served.events),
+        Ok(served) => Ok(served.settled.events()),
         Err(fault) => Err(Fail::new(format_args!("{fault:?}"))),
     }
 }

@@ -13,9 +13,10 @@ use std::marker::Brand;
 use std::sync::Wait;
 use std::test::Fail;
 use std::thread::Threads;
+use std::time;
 
 // A shift without jobs at a gate that a desk has swept.
-fn sweep_new<G: Gate + Send + Sync, R: Threads + Wait + Sync>(
+fn sweep_new<G: Gate + Send + Sync, R: Threads + Wait + time::Clock + Sync>(
     rt: &R,
     alloc: Global,
     book: Book,
@@ -28,7 +29,7 @@ fn sweep_new<G: Gate + Send + Sync, R: Threads + Wait + Sync>(
     shift_behind_a_sweep(rt, alloc, &gate)
 }
 
-fn shift_behind_a_sweep<G: Gate + Send + Sync, R: Threads + Wait + Sync>(
+fn shift_behind_a_sweep<G: Gate + Send + Sync, R: Threads + Wait + time::Clock + Sync>(
     rt: &R,
     alloc: Global,
     gate: &GateLock<G>,
@@ -42,7 +43,7 @@ fn shift_behind_a_sweep<G: Gate + Send + Sync, R: Threads + Wait + Sync>(
     Ok(shift_of_nothing(rt, alloc, gate))
 }
 
-fn shift_of_nothing<G: Gate + Send + Sync, R: Threads + Wait + Sync>(
+fn shift_of_nothing<G: Gate + Send + Sync, R: Threads + Wait + time::Clock + Sync>(
     rt: &R,
     alloc: Global,
     gate: &GateLock<G>,

@@ -5,5 +5,5 @@ use Rattle.gate_lock.proofs.ask.ask_round.Goals as goal
 
 pub returns-then-is_err-clause-asked : goal.returns-then-is_err-clause-asked
 returns-then-is_err-clause-asked g c =
-    refused_round c.args.round.now c.args.prepared c.args.mine.now c.args.marks.now.items c.args.moment c.refuse_ask.result _
-    (search rules) c.refuse_ask.ensures.no_entry c.make_room.ensures.items
+    refused_round c.args.counted.now c.args.prepared c.args.account.now c.args.moment c.refused_ask.result _
+    (search rules) c.refused_ask.ensures.no_entry c.make_room.ensures.same

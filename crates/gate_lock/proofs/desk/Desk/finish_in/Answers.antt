@@ -7,5 +7,5 @@ use Rattle.gate_lock.proofs.desk.Desk.finish_in.Goals as goal
 
 pub invariant_of-self : goal.invariant_of-self
 invariant_of-self g c =
-    marked_desk c.self.invariant _ (entry_count (history c.args.held.now)) _ _ _ _ _ _ _ c.push_reserved.ensures.items
-    (search rules) (search rules) (search rules) (search rules) (search rules) (search rules)
+    marked_desk c.self.invariant _ (entry_count (history c.args.held.now)) _ _ _ _ _ c.finish.ensures.marks
+    (search rules) (search rules) (search rules)

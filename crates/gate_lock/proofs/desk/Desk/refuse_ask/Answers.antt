@@ -10,8 +10,8 @@ returns-clause-step g c = λ token url. (
     c.lend-held.result,
     (
       search rules,
-      refused c.args.self.now c.lend-held.result token url c.args.moment c.refuse_ask.result c.lend-held.result _
-          (search rules) c.refuse_ask.ensures.no_entry
+      refused c.args.self.now c.lend-held.result token url c.args.moment c.refused_ask.result c.lend-held.result _
+          (search rules) c.refused_ask.ensures.no_entry
           (record { limits_are = search rules; no_is = search rules; seen_is = search rules; out_is = search rules; marks_are = search rules }),
     ),
   ),
