@@ -142,9 +142,10 @@ def drop_lines(it, count):
 
 def little_memory(*words):
     """A robots.txt for which there is no memory closes its site; the others' sites, what is out, seals, and with a journal
-    its files, go on."""
+    its files, go on. (It has two workers: what sixteen threads take as they start leaves the first site now room, now none.)"""
     sites = LongRules()
-    first, *more = sites.authorities(160)
+    first, *more = sites.authorities(240)
+    words = ("--workers", "2", *words)
     with tempfile.TemporaryDirectory() as folder, Recorded(folder, *words, octets=OCTETS) as server, Session(server) as it:
         same(it.say(f"REFRESH {first}"), f"TAKEN {first} rules")
         same(it.say(f"ASK foobot http://{first}/x"), "PERMIT 65536")
