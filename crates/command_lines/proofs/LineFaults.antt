@@ -1,10 +1,10 @@
 -- What a line without a fault before its first word has.
--- Used by `LineWords::of` and `read_command_among`.
+-- Used by `LineWords::of` and `read_command`.
 use Rattle.std.proofs.Common.{◌≡◌, ◌⊎◌, sym, subst, ℕ, Bool, true, false, cond, List, Result, Ok, Err, refl, ◌∙◌, inl, inr}
 use Rattle.std.specs.List.{list_any}
 use Rattle.path_normal.specs.Capacity.{Capacity, Enough, Overflows, Refused, IsRead}
 use Rattle.path_normal.specs.declared.schemes.Schemes.{Schemes}
-use Rattle.command_lines.specs.CallOf.{command_of_among, dialogue_words_of, has_line_octets, verb_words_of}
+use Rattle.command_lines.specs.CallOf.{command_of, dialogue_words_of, has_line_octets, verb_words_of}
 use Rattle.command_lines.specs.LineWords.{line_words_of, made_of_words}
 use Rattle.command_lines.specs.declared.command.Command.{Command}
 use Rattle.command_lines.specs.declared.fault.LineFault.{LineFault}
@@ -24,13 +24,13 @@ pub made_parts : {T : Type 0} (made : List (List ℕ) → T) (line : List ℕ) (
 made_parts made line value is = parts (has_line_octets line) (list_any is_empty_word (words_of line)) (made (words_of line)) value is
 
 words_read : (schemes : Schemes) (dialogue : Dialogue) (line : List ℕ) (words : List (List ℕ)) (capacity : Capacity) → line_words_of line ≡ Ok words →
-    command_of_among schemes dialogue line capacity ≡ dialogue_words_of schemes dialogue words capacity
+    command_of schemes dialogue line capacity ≡ dialogue_words_of schemes dialogue words capacity
 words_read schemes dialogue line words capacity is =
     let found = made_parts (λ (ws : List (List ℕ)). ws) line words is in
     rw (found.0, found.1, found.2) refl
 
 pub read_of_words : (schemes : Schemes) (dialogue : Dialogue) (line : List ℕ) (words : List (List ℕ)) (result : Result Command LineFault) → line_words_of line ≡ Ok words →
-    IsRead result (dialogue_words_of schemes dialogue words) → IsRead result (command_of_among schemes dialogue line)
+    IsRead result (dialogue_words_of schemes dialogue words) → IsRead result (command_of schemes dialogue line)
 read_of_words schemes dialogue line words (Ok command) is read = words_read schemes dialogue line words Enough is ∙ read
 read_of_words schemes dialogue line words (Err fault) is (inl enough) = inl (words_read schemes dialogue line words Enough is ∙ enough)
 read_of_words schemes dialogue line words (Err fault) is (inr (inl over)) = inr (inl (words_read schemes dialogue line words Overflows is ∙ over))

@@ -5,7 +5,6 @@ use Rattle.std.specs.Int.{is_in_range}
 use Rattle.std.specs.List.{list_all, list_any}
 use Rattle.path_normal.specs.Capacity.{Capacity}
 use Rattle.path_normal.specs.declared.schemes.Schemes.{Schemes}
-use Rattle.path_normal.specs.declared.schemes.Schemes.TheVariants.{Http}
 use Rattle.gate_core.specs.Calls.{HasSpare}
 use Rattle.gate_core.specs.declared.call.Call.{Call}
 use Rattle.gate_core.specs.declared.call.Call.TheVariants as calls
@@ -156,10 +155,6 @@ abbrev pub has_line_octets : List ℕ → Bool
 has_line_octets line = list_all is_line_octet line
 
 -- a line's command, or its first fault with some capacity; check 3: its octets
-abbrev pub command_of_among : Schemes → Dialogue → List ℕ → Capacity → Result Command LineFault
-command_of_among schemes dialogue line capacity =
+abbrev pub command_of : Schemes → Dialogue → List ℕ → Capacity → Result Command LineFault
+command_of schemes dialogue line capacity =
     if has_line_octets line then full_words_of schemes dialogue (words_of line) capacity else Err faults.Chars
-
--- a line's command, or its first fault, for `http`
-abbrev pub command_of : Dialogue → List ℕ → Capacity → Result Command LineFault
-command_of = command_of_among Http

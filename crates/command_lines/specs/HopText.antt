@@ -55,7 +55,7 @@ abbrev pub hop_text : Hop → List ℕ
 hop_text (hops.Page number reason status size cut) = page_text reason status size cut
 hop_text (hops.No denial) = denial_text denial
 hop_text (hops.Fault number fault) = fault_hop_text fault
-hop_text (hops.Refused refusal) = refusal_text refusal
+hop_text (hops.Err refusal) = refusal_text refusal
 hop_text (hops.Stop stop) = stop_text stop
 
 -- the lead of a hop's line, and the hop's number, each with a space after it

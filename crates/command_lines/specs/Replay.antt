@@ -24,7 +24,7 @@ use Rattle.command_lines.specs.declared.fault.LineFault.TheVariants as faults
 use Rattle.command_lines.specs.declared.verbs.Dialogue.TheVariants.{Replay}
 use Rattle.command_lines.specs.declared.arrival.Arrival.{Arrival}
 use Rattle.command_lines.specs.Arrival.{BringsAmong}
-use Rattle.command_lines.specs.CallOf.{command_of_among}
+use Rattle.command_lines.specs.CallOf.{command_of}
 use Rattle.command_lines.specs.FaultText.{line_fault_text}
 use Rattle.command_lines.specs.SealText.{seal_text}
 use Rattle.command_lines.specs.ReplyText.{bye_text, reply_text, state_text}
@@ -83,9 +83,9 @@ AnswersCommand schemes old (Err fault) text ended new = (text ≡ line_fault_tex
 -- word that needs more, and no change
 abbrev pub AnswersLineAmong : Schemes → Gate → List ℕ → List ℕ → Bool → Gate → Type 0
 AnswersLineAmong schemes old line text ended new =
-    AnswersCommand schemes old (command_of_among schemes Replay line Enough) text ended new
-    ⊎ AnswersCommand schemes old (command_of_among schemes Replay line Overflows) text ended new
-    ⊎ AnswersCommand schemes old (command_of_among schemes Replay line Refused) text ended new
+    AnswersCommand schemes old (command_of schemes Replay line Enough) text ended new
+    ⊎ AnswersCommand schemes old (command_of schemes Replay line Overflows) text ended new
+    ⊎ AnswersCommand schemes old (command_of schemes Replay line Refused) text ended new
 
 -- the answer to a line for `http`
 abbrev pub AnswersLine : Gate → List ℕ → List ℕ → Bool → Gate → Type 0

@@ -90,7 +90,7 @@ sweep_text (Err sweep.NoMemory) = refusal_text refusals.NoMemory
 -- the reply to STATE
 abbrev pub state_text : List ℕ → State → List ℕ
 state_text authority state =
-    line_of (codes "STATE" ∷ authority ∷ standing_word state.standing ∷ fetching_word state.fetching ∷ [])
+    line_of (codes "STATE" ∷ authority ∷ standing_word state.word ∷ fetching_word state.fetching ∷ [])
 
 -- the reply to URL: the page's URL as the gate writes it
 abbrev pub url_text : List ℕ → List ℕ

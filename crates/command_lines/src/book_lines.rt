@@ -14,7 +14,7 @@ ghost use Rattle.command_lines.specs.Session.{Session, failures_after_reads, fai
 
 use crate::answerer::{Answerer, Flow};
 use crate::arrival::{Arrival, decide};
-use crate::command::{Command, read_command_knowing};
+use crate::command::{Command, read_command};
 use crate::fault::LineFault;
 use crate::known_pages::Known;
 use crate::page_replies::{push_done, push_go, push_permit};
@@ -54,7 +54,7 @@ impl Answerer<Book> for BookLines {
             pages: &*book,
             last: &self.last,
         };
-        match read_command_knowing(alloc, self.schemes, Dialogue::Replay, line, &known) {
+        match read_command(alloc, self.schemes, Dialogue::Replay, line, &known) {
             Ok(Command::Call(call)) => {
                 answer_call(book, call, output, sink)?;
                 Ok(Flow::Goes)

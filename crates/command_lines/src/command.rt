@@ -2,7 +2,7 @@
 //! Used by the session; `CallOf` has the order of the checks.
 ghost use Rattle.std.specs.Prelude.{◌≡◌, IfOk, IsTrue, MatchOption, false, true};
 ghost use Rattle.path_normal.specs.Capacity.{IsRead};
-ghost use Rattle.command_lines.specs.CallOf.{arguments_of, CanBeMade, command_of_among, command_of};
+ghost use Rattle.command_lines.specs.CallOf.{arguments_of, CanBeMade, command_of};
 ghost use Rattle.command_lines.specs.CallOf.{is_line_octet};
 ghost use Rattle.command_lines.specs.CallOf.{has_line_octets, takes, timed_words_of, verb_words_of};
 
@@ -47,44 +47,15 @@ pub enum Command<'a> {
     Quit,
 }
 
-/// Reads a command line of a dialogue, without its line end; only `http` is read.
-pub fn read_command(
-    alloc: Global,
-    dialogue: Dialogue,
-    line: &[u8],
-) -> Result<Command<'_>, LineFault>
-    ensures read { IsRead result (command_of dialogue line.now) }
-    ensures spare { IfOk result CanBeMade }
-{
-    read_command_among(alloc, Schemes::Http, dialogue, line)
-}
-
-/// Like `read_command`, with these schemes.
-pub fn read_command_among(
-    alloc: Global,
-    schemes: Schemes,
-    dialogue: Dialogue,
-    line: &[u8],
-) -> Result<Command<'_>, LineFault>
-    ensures read { IsRead result (command_of_among schemes dialogue line.now) }
-    ensures spare { IfOk result CanBeMade }
-{
-    let known = Known {
-        pages: &NoPages,
-        last: &LastToken::none(),
-    };
-    read_command_knowing(alloc, schemes, dialogue, line, &known)
-}
-
-/// Like `read_command_among`, with what is known of pages and tokens.
-pub fn read_command_knowing<'a, P: KnownPages>(
+/// Reads a command line of a dialogue, without its line end, with what is known of pages and tokens.
+pub fn read_command<'a, P: KnownPages>(
     alloc: Global,
     schemes: Schemes,
     dialogue: Dialogue,
     line: &'a [u8],
     known: &Known<'_, P>,
 ) -> Result<Command<'a>, LineFault>
-    ensures read { IsRead result (command_of_among schemes dialogue line.now) }
+    ensures read { IsRead result (command_of schemes dialogue line.now) }
     ensures spare { IfOk result CanBeMade }
 {
     let mut room = [""; FRONT];

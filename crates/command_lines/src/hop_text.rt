@@ -26,7 +26,7 @@ pub fn hop_pieces(hop: &Hop) -> Pieces<'_>
         } => page_pieces(*reason, u64::from(*status), *length, *cut),
         Hop::No(denial) => denial_pieces(denial),
         Hop::Fault { number: _, fault } => fault_pieces(*fault),
-        Hop::Refused(refusal) => refusal_pieces(*refusal),
+        Hop::Err(refusal) => refusal_pieces(*refusal),
         Hop::Stop(stop) => stop_pieces(*stop),
     }
 }

@@ -1,8 +1,7 @@
 //! A job in the words of a line (docs/FORMATS.md, jobs).
-ghost use Rattle.std.specs.Prelude.{◌≡◌};
 ghost use Rattle.command_lines.specs.CallOf.{job_words_of};
 ghost use Rattle.path_normal.specs.Capacity.{IsRead};
-ghost use Rattle.command_lines.specs.JobWords.{job_of_among, job_of};
+ghost use Rattle.command_lines.specs.JobWords.{job_of};
 ghost use Rattle.line_text.specs.Words.{words_left};
 
 use crate::calls::read_job_of;
@@ -14,16 +13,9 @@ use path_normal::Schemes;
 use robots_text::LastToken;
 use std::alloc::Global;
 
-/// Reads a line `<token> <url>`, without its line end, with an `http` URL.
-pub fn read_job(alloc: Global, line: &[u8]) -> Result<Job, LineFault>
-    ensures { IsRead result (job_of line.now) }
-{
-    read_job_among(alloc, Schemes::Http, line)
-}
-
-/// Reads such a line with a URL of these schemes.
-pub fn read_job_among(alloc: Global, schemes: Schemes, line: &[u8]) -> Result<Job, LineFault>
-    ensures { IsRead result (job_of_among schemes line.now) }
+/// Reads a line `<token> <url>`, without its line end, with a URL of these schemes.
+pub fn read_job(alloc: Global, schemes: Schemes, line: &[u8]) -> Result<Job, LineFault>
+    ensures { IsRead result (job_of schemes line.now) }
 {
     match plain_text(line) {
         Some(text) => read_words(alloc, schemes, Words::of(text)),

@@ -137,9 +137,9 @@ fn sweep_pieces(reply: &Result<u64, SweepRefusal>) -> Pieces<'static>
 pub fn state_pieces(authority: &Authority, state: State) -> Pieces<'_>
     ensures { pieces_text result ≡ state_text authority.now state }
 {
-    let standing = Piece::Text(standing_word(state.standing));
+    let word = Piece::Text(standing_word(state.word));
     let fetching = Piece::Text(if state.fetching { "fetching" } else { "idle" });
-    Pieces::four_words("STATE", Piece::Text(authority.text()), standing, fetching)
+    Pieces::four_words("STATE", Piece::Text(authority.text()), word, fetching)
 }
 
 /// The reply to URL.

@@ -13,8 +13,8 @@ use Rattle.gate_core.specs.declared.state.State.{State}
 use Rattle.crawl_job.specs.declared.job.Outcome.{Outcome}
 use Rattle.keepers.specs.Deals.{Deals}
 use Rattle.keepers.specs.declared.counts.Counts.{Counts}
-use Rattle.keepers.specs.declared.visits.Visitors.{Visitors}
-use Rattle.command_lines.specs.CallOf.{command_of_among}
+use Rattle.command_server.specs.declared.visits.Visitors.{Visitors}
+use Rattle.command_lines.specs.CallOf.{command_of}
 use Rattle.command_server.specs.FirstLines.{is_turned_away}
 use Rattle.command_lines.specs.Limits.{max_client_line, max_lines}
 use Rattle.command_server.specs.Readings.{next_reading}
@@ -101,11 +101,11 @@ module _ {S : Type 0} (deals : Deals S) where
   DoesRequest speaker reads number old line told new =
       (m : ℕ) × (reads number m
       × (DoesCommand (reads (next_reading number)) old
-      (command_of_among (deals.schemes old) (dialogue_of speaker m (deals.can_fetch old)) line Enough) told new
+      (command_of (deals.schemes old) (dialogue_of speaker m (deals.can_fetch old)) line Enough) told new
       ⊎ DoesCommand (reads (next_reading number)) old
-      (command_of_among (deals.schemes old) (dialogue_of speaker m (deals.can_fetch old)) line Overflows) told new
+      (command_of (deals.schemes old) (dialogue_of speaker m (deals.can_fetch old)) line Overflows) told new
       ⊎ DoesCommand (reads (next_reading number)) old
-      (command_of_among (deals.schemes old) (dialogue_of speaker m (deals.can_fetch old)) line Refused) told new))
+      (command_of (deals.schemes old) (dialogue_of speaker m (deals.can_fetch old)) line Refused) told new))
 
   -- the text of the reply to a client's line. The session ends after a farewell, and after a first line that is
   -- turned away. Each line has its own readings

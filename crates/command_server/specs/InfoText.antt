@@ -2,7 +2,7 @@
 -- Cited by `info_text` and `told`.
 use Rattle.std.specs.Prelude.{List, ℕ, ◌++◌, codes, decimal}
 use Rattle.keepers.specs.declared.counts.Counts.{Counts}
-use Rattle.keepers.specs.declared.visits.Visitors.{Visitors}
+use Rattle.command_server.specs.declared.visits.Visitors.{Visitors}
 
 -- the entries, the starts, and the permits out
 unfoldable pub begin_of_info : Counts → List ℕ

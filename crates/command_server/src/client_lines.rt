@@ -9,7 +9,8 @@ use crate::client_reply::ClientReply;
 use crate::first_line::FirstLine;
 use crate::kept_pages::KeptPages;
 use crate::numbered_clock::{FetchClock, NumberedClock, next_reading};
-use command_lines::{Answerer, Command, Flow, Known, LineFault, Speaker, read_command_knowing};
+use crate::visits::Visits;
+use command_lines::{Answerer, Command, Flow, Known, LineFault, Speaker, read_command};
 use counted_io::{DeviceFault, Output, Sink};
 use crawl_job::Job;
 use gate_core::Call;
@@ -31,6 +32,7 @@ pub(crate) struct ClientLines<'c, C: NumberedClock> {
     pub(crate) speaker: Speaker,
     pub(crate) clock: &'c C,
     pub(crate) first: FirstLine,
+    pub(crate) visits: &'c Visits,
     pub(crate) last: LastToken,
 }
 
@@ -51,19 +53,74 @@ impl<'k, K: Keeper, C: NumberedClock> Answerer<Client<'k, K>> for ClientLines<'_
         output: &mut Output,
         sink: &mut W,
     ) -> Result<Flow, DeviceFault> {
-        let told = told_of(
-            alloc,
-            self.speaker,
-            self.clock,
-            client.number,
-            client.keeper,
-            line,
-            &self.last,
-        );
+        let told = self.told_of(alloc, client.number, client.keeper, line);
         let flow = flow_behind(self.first, client.number, line, &told);
         client.number = next_reading(next_reading(client.number));
         told.tell(output, sink)?;
         Ok(flow)
+    }
+}
+
+impl<C: NumberedClock> ClientLines<'_, C> {
+    // Makes the call of a line at this reading, in the keeper's schemes. Its fetches have the next number.
+    fn told_of<K: Keeper>(
+        &self,
+        alloc: Global,
+        number: u64,
+        keeper: &mut K,
+        line: &[u8],
+    ) -> ClientReply
+        ensures { DoesRequest K.deals self.now.speaker
+            (C.reads self.now.clock.now) number keeper.old line.now result keeper.new }
+    {
+        let dialogue = self
+            .speaker
+            .dialogue(self.clock.read(number), keeper.can_fetch());
+        let clock = &FetchClock {
+            clock: self.clock,
+            number: next_reading(number),
+        };
+        let pages = KeptPages { keeper: &*keeper };
+        let known = Known {
+            pages: &pages,
+            last: &self.last,
+        };
+        match read_command(alloc, pages.keeper.schemes(), dialogue, line, &known) {
+            Ok(Command::Call(call)) => told_of_call(keeper, call),
+            Ok(Command::State { authority, moment }) => {
+                let state = keeper.state(&authority, moment);
+                ClientReply::Known { authority, state }
+            }
+            Ok(Command::Seal) => ClientReply::Sealed(keeper.seal()),
+            Ok(Command::Refresh { authority }) => {
+                match keeper.refresh(alloc, &authority, clock) {
+                    Some(result) => ClientReply::Refreshed { authority, result },
+                    None => ClientReply::Fault(LineFault::Verb),
+                }
+            }
+            Ok(Command::Fetch(job)) => match keeper.fetch(alloc, job, clock) {
+                Some(Ok(outcome)) => ClientReply::Fetched(outcome),
+                Some(Err(_)) => ClientReply::NoMemory,
+                None => ClientReply::Fault(LineFault::Verb),
+            },
+            // Needs no keeper.
+            Ok(Command::Url(url)) => ClientReply::Written(url),
+            Ok(Command::Info) => ClientReply::Counted {
+                counts: keeper.counts(),
+                visitors: self.visits.read(),
+            },
+            Ok(Command::Why { authority }) => {
+                let result = keeper.answer(alloc, &authority);
+                ClientReply::Explained { authority, result }
+            }
+            Ok(Command::Quit) => {
+                keeper.end();
+                ClientReply::Bye
+            }
+            // No line of a client reads so.
+            Ok(Command::Arrive(_)) => ClientReply::Fault(LineFault::Verb),
+            Err(fault) => ClientReply::Fault(fault),
+        }
     }
 }
 
@@ -75,67 +132,6 @@ fn flow_behind(first: FirstLine, number: u64, line: &[u8], told: &ClientReply) -
         Flow::Ends
     } else {
         told.flow()
-    }
-}
-
-// Makes the call of a line at this reading, in the keeper's schemes. Its fetches have the next number.
-fn told_of<K: Keeper, C: NumberedClock>(
-    alloc: Global,
-    speaker: Speaker,
-    clock: &C,
-    number: u64,
-    keeper: &mut K,
-    line: &[u8],
-    last: &LastToken,
-) -> ClientReply
-    ensures { DoesRequest K.deals speaker
-        (C.reads clock.now) number keeper.old line.now result keeper.new }
-{
-    let dialogue = speaker.dialogue(clock.read(number), keeper.can_fetch());
-    let clock = &FetchClock {
-        clock,
-        number: next_reading(number),
-    };
-    let pages = KeptPages { keeper: &*keeper };
-    let known = Known {
-        pages: &pages,
-        last,
-    };
-    match read_command_knowing(alloc, pages.keeper.schemes(), dialogue, line, &known) {
-        Ok(Command::Call(call)) => told_of_call(keeper, call),
-        Ok(Command::State { authority, moment }) => {
-            let state = keeper.state(&authority, moment);
-            ClientReply::Known { authority, state }
-        }
-        Ok(Command::Seal) => ClientReply::Sealed(keeper.seal()),
-        Ok(Command::Refresh { authority }) => {
-            match keeper.refresh(alloc, &authority, clock) {
-                Some(result) => ClientReply::Refreshed { authority, result },
-                None => ClientReply::Fault(LineFault::Verb),
-            }
-        }
-        Ok(Command::Fetch(job)) => match keeper.fetch(alloc, job, clock) {
-            Some(Ok(outcome)) => ClientReply::Fetched(outcome),
-            Some(Err(_)) => ClientReply::NoMemory,
-            None => ClientReply::Fault(LineFault::Verb),
-        },
-        // Needs no keeper.
-        Ok(Command::Url(url)) => ClientReply::Written(url),
-        Ok(Command::Info) => ClientReply::Counted {
-            counts: keeper.counts(),
-            visitors: keeper.visitors(),
-        },
-        Ok(Command::Why { authority }) => {
-            let result = keeper.answer(alloc, &authority);
-            ClientReply::Explained { authority, result }
-        }
-        Ok(Command::Quit) => {
-            keeper.end();
-            ClientReply::Bye
-        }
-        // No line of a client reads so.
-        Ok(Command::Arrive(_)) => ClientReply::Fault(LineFault::Verb),
-        Err(fault) => ClientReply::Fault(fault),
     }
 }
 

@@ -8,6 +8,7 @@ ghost use Rattle.command_server.specs.Clients.{is_farewell};
 ghost use Rattle.command_server.specs.ClientReplyText.{body_text, fetched_text, refresh_text, spent_text, client_reply_text};
 
 use crate::info_text::push_info;
+use crate::visits::Visitors;
 use authority_cache::StandingAnswer;
 use command_lines::{
     Flow, LineFault, arrive_pieces, ask_pieces, back_pieces, begin_pieces, bye_pieces,
@@ -18,7 +19,7 @@ use counted_io::{DeviceFault, Output, Sink};
 use crawl_job::{Outcome, Refusal};
 use gate_core::{AskRefusal, BeginRefusal, Denial, NoMemory, Standing, State};
 use gate_history::{Reason, Segment};
-use keepers::{Counts, Visitors};
+use keepers::Counts;
 use line_text::{Piece, Pieces};
 use path_normal::{Authority, PageUrl};
 use permit_book::{NotOut, PermitNo};

@@ -10,6 +10,7 @@ ghost use Rattle.command_lines.specs.Session.{Session, failures_after_reads, fai
 use crate::client_lines::{Client, ClientLines};
 use crate::first_line::FirstLine;
 use crate::numbered_clock::NumberedClock;
+use crate::visits::Visits;
 use command_lines::{MAX_LINES, SessionFault, Speaker, run_session};
 use counted_io::{Sink, Source};
 use keepers::Keeper;
@@ -21,7 +22,7 @@ pub const MAX_CLIENT_LINE: usize = 8192;
 
 /// Reads a client's lines, makes their calls on the keeper, and writes the replies, before each read that
 /// may wait and at the end. Reads the clock for each line, and again for fetches; moments are in seconds.
-/// At QUIT, and once more at any end, gives back all that the session has out.
+/// At QUIT, and once more at any end, gives back all that the session has out. INFO tells of no connections.
 pub fn serve<R: Source, W: Sink, K: Keeper, C: NumberedClock>(
     alloc: Global,
     reader: &mut R,
@@ -37,10 +38,19 @@ pub fn serve<R: Source, W: Sink, K: Keeper, C: NumberedClock>(
     ensures writes { W.failures writer.new
         ≡ failures_after_writes (W.failures writer.old) result }
 {
-    serve_from(alloc, reader, writer, keeper, clock, FirstLine::Any)
+    let visits = Visits::new();
+    serve_from(
+        alloc,
+        reader,
+        writer,
+        keeper,
+        clock,
+        FirstLine::Any,
+        &visits,
+    )
 }
 
-/// Like `serve`, but ends the session after a first line that is turned away.
+/// Like `serve`, but ends the session after a first line that is turned away, and INFO tells of these visits.
 pub fn serve_from<R: Source, W: Sink, K: Keeper, C: NumberedClock>(
     alloc: Global,
     reader: &mut R,
@@ -48,6 +58,7 @@ pub fn serve_from<R: Source, W: Sink, K: Keeper, C: NumberedClock>(
     keeper: &mut K,
     clock: &C,
     first: FirstLine,
+    visits: &Visits,
 ) -> Result<(), SessionFault>
     ensures session { Serves K.deals speakers.Client first (C.reads clock.now) keeper.old keeper.new
         (R.left reader.old) (R.left reader.new)
@@ -56,7 +67,14 @@ pub fn serve_from<R: Source, W: Sink, K: Keeper, C: NumberedClock>(
     ensures writes { W.failures writer.new
         ≡ failures_after_writes (W.failures writer.old) result }
 {
-    serve_lines(alloc, reader, writer, keeper, Speaker::Client, clock, first)
+    let lines = ClientLines {
+        speaker: Speaker::Client,
+        clock,
+        first,
+        visits,
+        last: LastToken::none(),
+    };
+    serve_lines(alloc, reader, writer, keeper, &lines)
 }
 
 /// Like `serve_from`, for an overseer: its lines can't ask for permits or fetches.
@@ -67,6 +85,7 @@ pub fn serve_overseer<R: Source, W: Sink, K: Keeper, C: NumberedClock>(
     keeper: &mut K,
     clock: &C,
     first: FirstLine,
+    visits: &Visits,
 ) -> Result<(), SessionFault>
     ensures session { Serves K.deals speakers.Overseer first
         (C.reads clock.now) keeper.old keeper.new
@@ -76,41 +95,34 @@ pub fn serve_overseer<R: Source, W: Sink, K: Keeper, C: NumberedClock>(
     ensures writes { W.failures writer.new
         ≡ failures_after_writes (W.failures writer.old) result }
 {
-    serve_lines(
-        alloc,
-        reader,
-        writer,
-        keeper,
-        Speaker::Overseer,
+    let lines = ClientLines {
+        speaker: Speaker::Overseer,
         clock,
         first,
-    )
+        visits,
+        last: LastToken::none(),
+    };
+    serve_lines(alloc, reader, writer, keeper, &lines)
 }
 
+// Answers the lines, and ends the session whatever it met.
 fn serve_lines<R: Source, W: Sink, K: Keeper, C: NumberedClock>(
     alloc: Global,
     reader: &mut R,
     writer: &mut W,
     keeper: &mut K,
-    speaker: Speaker,
-    clock: &C,
-    first: FirstLine,
+    lines: &ClientLines<'_, C>,
 ) -> Result<(), SessionFault>
-    ensures session { Serves K.deals speaker first (C.reads clock.now) keeper.old keeper.new
+    ensures session { Serves K.deals lines.now.speaker lines.now.first
+        (C.reads lines.now.clock.now) keeper.old keeper.new
         (R.left reader.old) (R.left reader.new)
         (W.written writer.old) (W.written writer.new) result }
     ensures reads { R.failures reader.new ≡ failures_after_reads (R.failures reader.old) result }
     ensures writes { W.failures writer.new
         ≡ failures_after_writes (W.failures writer.old) result }
 {
-    let lines = ClientLines {
-        speaker,
-        clock,
-        first,
-        last: LastToken::none(),
-    };
     let mut client = Client { keeper, number: 0 };
-    let end = run_lines(alloc, reader, writer, &lines, &mut client);
+    let end = run_lines(alloc, reader, writer, lines, &mut client);
     client.keeper.end();
     end
 }

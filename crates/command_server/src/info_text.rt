@@ -5,8 +5,9 @@ ghost use Rattle.counted_io.specs.Output.{Pushes};
 ghost use Rattle.line_text.specs.Pieces.{pieces_text};
 ghost use Rattle.command_server.specs.InfoText.{begin_of_info, end_of_info, info_text, rest_of_info, visitors_of_info};
 
+use crate::visits::Visitors;
 use counted_io::{DeviceFault, Output, Sink};
-use keepers::{Counts, Visitors};
+use keepers::Counts;
 use line_text::{Piece, Pieces};
 
 /// Pushes the line.

@@ -9,13 +9,11 @@ mod first_line;
 mod info_text;
 mod kept_pages;
 mod numbered_clock;
+mod visits;
 
 pub use client_session::{MAX_CLIENT_LINE, serve, serve_from, serve_overseer};
-pub use command_lines::{
-    Answerer, Arrival, Command, Dialogue, Flow, LineFault, MAX_LINES, ReplyWords, SessionFault,
-    Speaker, hop_pieces, push_hops, read_command, read_command_among, read_job, read_job_among,
-    refusal_word, replay, replay_among, reply_pieces, run_session,
-};
+pub use command_lines::{SessionFault, replay};
 pub use first_line::FirstLine;
-pub use keepers::{BookKeeper, DeskKeeper, Keeper, NoKeeper};
+pub use keepers::{BookKeeper, DeskKeeper, Keeper};
 pub use numbered_clock::{FetchClock, NumberedClock, next_reading};
+pub use visits::{Visitors, Visits};

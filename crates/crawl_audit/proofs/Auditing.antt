@@ -90,6 +90,16 @@ feedless line none = λ k d within. unequal _ (none k d within)
     unequal : (o : ℕ) → (o ≡ 10 → ⊥) → (o == 10) ≡ false
     unequal o apart = grind (arith, nat_tests)
 
+-- no line that was read has a line feed
+pub no_feeds : (schemes : Schemes) (a : Auditor) (lines : List (List ℕ)) (place : Place) → Holds schemes a lines place → All HasNoLineFeed lines
+no_feeds schemes a lines place holds = λ k d within. (λ i e inside. apart _ ((good k d within).feedless i e inside))
+  where
+    good : All IsGoodLine lines
+    good = good_begins lines (reads_are_fronts lines place holds.runs holds.few)
+
+    apart : (o : ℕ) → (o == 10) ≡ false → o ≡ 10 → ⊥
+    apart o not is = grind (arith, nat_tests)
+
 -- a line feed is not among octets without one
 beyond : (raw l x r : List ℕ) → HasNoLineFeed raw → raw ++ x ≡ l ++ 10 ∷ r → length l < length raw → ⊥
 beyond [] l x r none is short = omega arith

@@ -16,7 +16,7 @@ use Rattle.crawl_audit.specs.Audit.{AddsLine, Holds, LeadsNowhere}
 use Rattle.crawl_audit.specs.Chains.{line_limit}
 use Rattle.crawl_audit.specs.Recovering.{HeardCut, HeardWhole, IsBadWhole, IsWholeFault}
 use Rattle.history_text.specs.SpellBase.{lines_text}
-use Rattle.crawl_audit.proofs.Auditing.{bad_line, bad_line_behind, bad_part, bad_part_behind, ended_at, split_known, split_twice, text_more}
+use Rattle.crawl_audit.proofs.Auditing.{bad_line, bad_line_behind, bad_part, bad_part_behind, ended_at, no_feeds, split_known, split_twice, text_more}
 
 longer : (lines : List (List ℕ)) (line : List ℕ) → length (lines_text (lines ++ line ∷ [])) ≡ length (lines_text lines) + length line + 1
 longer lines line =
@@ -67,6 +67,7 @@ module _ (schemes : Schemes) (w : WholeLines) (input behind : Option (List ℕ))
               let end = prepend_known-end (prepend_known pending left) left pending (Keeps-refl (prepend_known pending left)) t.drained.empty t.drained.at_end in
               let none : s.0 ≡ [] = subst IsAtEnd s.1 end in
               record {
+                are_lines = no_feeds schemes w.auditor heard.lines heard.place heard.holds;
                 torn = line;
                 no_line_feed = t.no_line_feed;
                 text_is = s.2 ∙ ap (λ k. lines_text heard.lines ++ k) (ap (λ k. line ++ k) none ∙ append-nil line);
@@ -86,6 +87,7 @@ module _ (schemes : Schemes) (w : WholeLines) (input behind : Option (List ℕ))
               let s = split_known text (prepend_known pending left) (lines_text heard.lines) (subst (λ (i : Option (List ℕ)). Consumes i (prepend_known pending left) (lines_text heard.lines)) is at.0) in
               let none : s.0 ≡ [] = subst IsAtEnd s.1 at.1 in
               record {
+                are_lines = no_feeds schemes w.auditor heard.lines heard.place heard.holds;
                 torn = [];
                 no_line_feed = All-nil _;
                 text_is = s.2 ∙ ap (λ k. lines_text heard.lines ++ k) none;

@@ -34,6 +34,7 @@ use Rattle.crawl_audit.specs.Tables.{TellsAll}
 
 -- the text is these whole lines, and a rest without line feed
 pub record IsCut (text : List ℕ) (lines : List (List ℕ)) : Type 0 where
+  pub are_lines : All HasNoLineFeed lines
   pub torn : List ℕ
   pub no_line_feed : HasNoLineFeed torn
   pub text_is : text ≡ lines_text lines ++ torn

@@ -29,7 +29,7 @@ pub enum Hop {
         fault: WireFault,
     },
     /// No permit, though no robots answer denied it.
-    Refused(Refusal),
+    Err(Refusal),
     /// The redirect before it is not followed.
     Stop(Stop),
 }

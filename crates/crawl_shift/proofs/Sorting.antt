@@ -9,7 +9,7 @@ use Rattle.crawl_job.specs.declared.job.Job.{Job}
 use Rattle.counted_io.specs.Lines.{IsDrained}
 use Rattle.command_lines.specs.Answers.{AnswersLines}
 use Rattle.command_lines.specs.Input.{TakesLines}
-use Rattle.command_lines.specs.JobWords.{job_of_among}
+use Rattle.command_lines.specs.JobWords.{job_of}
 use Rattle.command_lines.specs.Session.{Meets, ResultsIn, Session, failures_after_reads}
 use Rattle.command_lines.specs.declared.fault.LineFault.{LineFault}
 use Rattle.command_lines.specs.declared.fault.LineFault.TheVariants as faults
@@ -70,18 +70,18 @@ behind_job old mid job jobs bad = omega (arith, one_longer old.list.jobs.items m
 behind_bad : (old mid : Reading) (told : BadJobLine) → mid.list.jobs.items ≡ old.list.jobs.items → mid.bad.items ≡ old.bad.items ++ told ∷ [] → next_number mid ≡ next_number old + 1
 behind_bad old mid told jobs bad = omega (arith, one_longer old.bad.items mid.bad.items told bad, ap length jobs)
 
-fails_so : (schemes : Schemes) (line : List ℕ) (fault : LineFault) → fault ≢ faults.Memory → MayFail schemes line fault → IsRead (Err fault) (job_of_among schemes line)
+fails_so : (schemes : Schemes) (line : List ℕ) (fault : LineFault) → fault ≢ faults.Memory → MayFail schemes line fault → IsRead (Err fault) (job_of schemes line)
 fails_so schemes line fault other (inl fails) = fails
 fails_so schemes line fault other (inr memory) = absurd (other memory)
 
 told_of : (schemes : Schemes) (number : ℕ) (line : List ℕ) (told : BadJobLine) (fault : LineFault) → told.number ≡ number → told.fault ≡ fault → fault ≢ faults.Memory → MayFail schemes line fault → IsToldOf schemes number line told
 told_of schemes number line told fault number_is fault_is other may = record {
   number_is = number_is;
-  fails = subst (λ (f : LineFault). IsRead (Err f) (job_of_among schemes line)) (sym fault_is) (fails_so schemes line fault other may);
+  fails = subst (λ (f : LineFault). IsRead (Err f) (job_of schemes line)) (sym fault_is) (fails_so schemes line fault other may);
   no_memory = subst (λ (f : LineFault). f ≢ faults.Memory) (sym fault_is) other;
 }
 
-sorted_job : (schemes : Schemes) (number next : ℕ) (line : List ℕ) (lines : List (List ℕ)) (job : Job) (own : List Job) (bad : List BadJobLine) → next ≡ number + 1 → IsRead (Ok job) (job_of_among schemes line) →
+sorted_job : (schemes : Schemes) (number next : ℕ) (line : List ℕ) (lines : List (List ℕ)) (job : Job) (own : List Job) (bad : List BadJobLine) → next ≡ number + 1 → IsRead (Ok job) (job_of schemes line) →
     AreSorted schemes next lines own bad → AreSorted schemes number (line ∷ lines) (job ∷ own) bad
 sorted_job schemes number next line lines job own bad up read later = inl (record {
   job = job;

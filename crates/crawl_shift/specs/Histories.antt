@@ -1,5 +1,5 @@
--- A shift's history as a text, by its workers' receipts.
--- The contract of `Shift::history`; see docs/FORMATS.md.
+-- What a shift did, and its history as a text, by its workers' receipts.
+-- The contract of `Shift`; see docs/FORMATS.md.
 use Rattle.std.specs.Prelude.{◌≡◌, ℕ, List, [], Option}
 use Rattle.std.specs.Io.KnownBytes.{Appends}
 use Rattle.gate_core.specs.Gate.{Gate, HasLegalHistory}
@@ -10,7 +10,6 @@ use Rattle.history_text.specs.SpellBase.{spell_segment}
 use Rattle.crawl_job.specs.declared.job.Job.{Job}
 use Rattle.crawl_workers.specs.Shifts.{IsShift, ReportView}
 use Rattle.page_worker.specs.World.{World}
-use Rattle.crawl_shift.specs.JobLists.{AreAllJobs}
 
 -- the receipts are the gate's whole history, with nothing sealed before
 pub record AreWholeHistory (gate : Gate) (receipts : List Receipt) : Type 0 where
@@ -30,10 +29,7 @@ pub record WritesJobs (world : World) (workers : ℕ) (jobs : List Job) (old new
   pub shift : IsShift world jobs workers [] report
   pub wrote : WritesReceipts report.receipts old new
 
--- a shift of these workers did the input's jobs, and its receipts' history was written
-pub record WritesShift (world : World) (workers : ℕ) (input left old new : Option (List ℕ)) : Type 0 where
-  pub jobs : List Job
+-- a shift of these workers did the jobs over a gate of these earlier receipts
+pub record DoesJobs (world : World) (workers : ℕ) (jobs : List Job) (past : List Receipt) : Type 0 where
   pub report : ReportView
-  pub read : AreAllJobs world.schemes input left jobs
-  pub shift : IsShift world jobs workers [] report
-  pub wrote : WritesReceipts report.receipts old new
+  pub shift : IsShift world jobs workers past report

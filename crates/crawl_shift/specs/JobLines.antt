@@ -10,7 +10,7 @@ use Rattle.counted_io.specs.Lines.{IsDrained}
 use Rattle.crawl_job.specs.declared.job.Job.{Job}
 use Rattle.command_lines.specs.FaultText.{fault_words}
 use Rattle.command_lines.specs.Input.{TakesLines}
-use Rattle.command_lines.specs.JobWords.{job_of_among}
+use Rattle.command_lines.specs.JobWords.{job_of}
 use Rattle.command_lines.specs.declared.fault.LineFault.{LineFault}
 use Rattle.command_lines.specs.declared.fault.LineFault.TheVariants as faults
 use Rattle.command_lines.specs.declared.session_fault.SessionFault.{SessionFault}
@@ -32,7 +32,7 @@ bad_line_text bad = codes "line " ++ (decimal bad.number ++ (codes ": " ++ (faul
 -- the line of this number has the reported fault
 pub record IsToldOf (schemes : Schemes) (number : ℕ) (line : List ℕ) (told : BadJobLine) : Type 0 where
   pub number_is : told.number ≡ number
-  pub fails : IsRead (Err told.fault) (job_of_among schemes line)
+  pub fails : IsRead (Err told.fault) (job_of schemes line)
   pub no_memory : told.fault ≢ faults.Memory
 
 -- a line is the first of the jobs
@@ -40,7 +40,7 @@ pub record GivesJob (schemes : Schemes) (line : List ℕ) (jobs : List Job) (res
   pub job : Job
   pub later : List Job
   pub jobs_are : jobs ≡ job ∷ later
-  pub read : IsRead (Ok job) (job_of_among schemes line)
+  pub read : IsRead (Ok job) (job_of schemes line)
   pub then : rest later
 
 -- the first of the bad lines is this line

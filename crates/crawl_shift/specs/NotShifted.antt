@@ -3,14 +3,14 @@
 use Rattle.crawl_workers.specs.declared.report.ShiftFault.{ShiftFault}
 use Rattle.crawl_workers.specs.declared.report.ShiftFault.TheVariants as shift
 use Rattle.gate_settlement.specs.declared.settlement.SettleFault.TheVariants as settle
-use Rattle.crawl_shift.specs.declared.job_list.JobsFault.{JobsFault}
-use Rattle.crawl_shift.specs.declared.job_list.JobsFault.TheVariants as jobs_fault
+use Rattle.crawl_shift.specs.declared.job_lines.JobLinesFault.{JobLinesFault}
+use Rattle.crawl_shift.specs.declared.job_lines.JobLinesFault.TheVariants as jobs_fault
 use Rattle.crawl_shift.specs.declared.not_shifted.NotShifted.{NotShifted}
 use Rattle.crawl_shift.specs.declared.not_shifted.NotShifted.TheVariants.{BadLine, NoMemory, Device}
 
 -- the jobs were not read
-abbrev pub by_jobs : JobsFault → NotShifted
-by_jobs (jobs_fault.BadLine number) = BadLine number
+abbrev pub by_jobs : JobLinesFault → NotShifted
+by_jobs (jobs_fault.BadLine bad) = BadLine bad.number
 by_jobs jobs_fault.Read = Device
 by_jobs jobs_fault.NoMemory = NoMemory
 

@@ -23,7 +23,7 @@ abbrev pub outcome_word : Hop → List ℕ
 outcome_word (hops.Page number reason status size cut) = codes "PAGE"
 outcome_word (hops.No denial) = codes "NO"
 outcome_word (hops.Fault number fault) = codes "FAULT"
-outcome_word (hops.Refused refusal) = codes "ERR"
+outcome_word (hops.Err refusal) = codes "ERR"
 outcome_word (hops.Stop stop) = codes "STOP"
 
 -- the status of a response, if any
@@ -57,7 +57,7 @@ abbrev pub cause_text : Hop → Option Failure → Option ClosedBy → List ℕ
 cause_text (hops.Page number reason status size cut) _ _ = spaced_words (reason_words reason) ++ end_text cut
 cause_text (hops.No denial) _ by = denial_phrase denial.cause by
 cause_text (hops.Fault number fault) failure _ = wire_fault_phrase fault failure
-cause_text (hops.Refused refusal) _ _ = refusal_phrase refusal
+cause_text (hops.Err refusal) _ _ = refusal_phrase refusal
 cause_text (hops.Stop stop) _ _ = stop_phrase stop
 
 -- the line of a hop

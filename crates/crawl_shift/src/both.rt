@@ -1,6 +1,7 @@
 //! A pair of watchers.
 use crawl_job::{Job, Outcome};
-use crawl_workers::{Event, Watcher};
+use crawl_workers::Watcher;
+use page_worker::Event;
 
 /// Two watchers of each job.
 #[derive(Drop)]

@@ -7,10 +7,11 @@ ghost use Rattle.crawl_shift.specs.Causes.{refusal_phrase, spaced_words, stop_ph
 
 use command_lines::refusal_word;
 use crawl_job::Refusal;
-use crawl_workers::{ClosedBy, Failure};
 use gate_history::{Cause, Wording};
+use http_client::Failure;
 use http_wire::WireFault;
 use line_text::Piece;
+use page_worker::ClosedBy;
 use robots_fetch::Stop;
 use std::time::Duration;
 

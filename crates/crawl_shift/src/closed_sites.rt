@@ -1,6 +1,5 @@
 //! The sites that their robots.txt files closed in a shift, and why, reported once each.
-ghost use Rattle.std.specs.Prelude.{◌≡◌, ◌++◌, flat_map};
-ghost use Rattle.counted_io.specs.Output.{Pushes};
+ghost use Rattle.std.specs.Prelude.{◌≡◌, ◌++◌};
 ghost use Rattle.line_text.specs.Pieces.{pieces_text};
 ghost use Rattle.crawl_shift.specs.Causes.{words_text};
 ghost use Rattle.crawl_shift.specs.ClosedText.{closed_site_text};
@@ -8,8 +7,10 @@ ghost use Rattle.crawl_shift.specs.ClosedText.{closed_site_text};
 use crate::causes::{CauseWords, closing_words};
 use counted_io::{DeviceFault, Output, Sink};
 use crawl_job::{Job, Outcome};
-use crawl_workers::{ClosedBy, Event, Failure, Watcher};
+use crawl_workers::Watcher;
+use http_client::Failure;
 use line_text::{AsPieces, Piece, Pieces, push_each};
+use page_worker::{ClosedBy, Event};
 use std::alloc::{AllocError, Global};
 use std::sync::{Mutex, Wait};
 

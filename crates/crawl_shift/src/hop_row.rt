@@ -9,8 +9,9 @@ ghost use Rattle.crawl_shift.specs.TableText.{outcome_word, place_text, row_text
 use crate::causes::{CauseWords, denial_words, fault_words, refusal_words, stop_words, worded};
 use counted_io::{DeviceFault, Output, Sink};
 use crawl_job::Hop;
-use crawl_workers::{ClosedBy, Failure};
+use http_client::Failure;
 use line_text::{Piece, Pieces};
+use page_worker::ClosedBy;
 
 /// A hop that has ended. Jobs and hops count from 1.
 #[derive(Clone, Copy)]
@@ -103,7 +104,7 @@ impl HopRow<'_> {
             Hop::Page { reason, .. } => ended(worded(reason.wording()), "\n"),
             Hop::No(denial) => ended(denial_words(denial.cause, self.closed_by), "\n"),
             Hop::Fault { fault, .. } => ended(fault_words("", *fault, self.failure), "\n"),
-            Hop::Refused(refusal) => ended(refusal_words(*refusal), "\n"),
+            Hop::Err(refusal) => ended(refusal_words(*refusal), "\n"),
             Hop::Stop(stop) => ended(stop_words(*stop), "\n"),
         }
     }
@@ -129,7 +130,7 @@ fn outcome_word(hop: &Hop) -> &'static str
         Hop::Page { .. } => "PAGE",
         Hop::No(_) => "NO",
         Hop::Fault { .. } => "FAULT",
-        Hop::Refused(_) => "ERR",
+        Hop::Err(_) => "ERR",
         Hop::Stop(_) => "STOP",
     }
 }

@@ -20,7 +20,7 @@ mod under_way;
 
 pub use closed_sites::ClosedSites;
 pub use job_lines::{BadJobLine, BadLines, JobLines, JobLinesFault, read_job_lines};
-pub use job_list::{JobsFault, MAX_JOB_LINE, read_jobs, read_jobs_among};
+pub use job_list::MAX_JOB_LINE;
 pub use not_shifted::NotShifted;
 pub use shifting::Shift;
 pub use status_line::StatusLine;

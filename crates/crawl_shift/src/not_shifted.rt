@@ -1,5 +1,5 @@
 //! Why a shift has no whole report.
-use crate::job_list::JobsFault;
+use crate::job_lines::JobLinesFault;
 use counted_io::DeviceFault;
 use crawl_workers::ShiftFault;
 use gate_settlement::SettleFault;
@@ -16,17 +16,17 @@ pub enum NotShifted {
     Device,
 }
 
-impl From<JobsFault> for NotShifted {
+impl From<JobLinesFault> for NotShifted {
     ghost use Rattle.std.specs.Prelude.{◌≡◌};
     ghost use Rattle.crawl_shift.specs.NotShifted.{by_jobs};
 
     ghost from_gives = { λ fault told. told ≡ by_jobs fault };
 
-    fn from(fault: JobsFault) -> NotShifted {
+    fn from(fault: JobLinesFault) -> NotShifted {
         match fault {
-            JobsFault::BadLine(number) => NotShifted::BadLine(number),
-            JobsFault::Read => NotShifted::Device,
-            JobsFault::NoMemory => NotShifted::NoMemory,
+            JobLinesFault::BadLine(bad) => NotShifted::BadLine(bad.number),
+            JobLinesFault::Read => NotShifted::Device,
+            JobLinesFault::NoMemory => NotShifted::NoMemory,
         }
     }
 }

@@ -4,8 +4,10 @@ use crate::report_text::sums;
 use command_lines::push_hops;
 use counted_io::{Counted, DeviceFault, Output, Sink};
 use crawl_job::{Hop, Job, Outcome};
-use crawl_workers::{Crawled, Event, Fetcher, Watcher};
+use crawl_workers::{Crawled, Watcher};
+use fetchers::Fetcher;
 use line_text::Piece;
+use page_worker::Event;
 use std::alloc::{AllocError, Global};
 use std::sync::{Mutex, Wait};
 

@@ -1,25 +1,26 @@
 //! A shift over job lines: several workers do the jobs, and the results are written.
 //! `crawlgate shift` runs it over standard input and output.
-ghost use Rattle.std.specs.Prelude.{◌≡◌, ◌≤◌, [], IfOk, IsTrue, OnOk, length};
+ghost use Rattle.std.specs.Prelude.{◌≡◌, ◌≤◌, [], IfOk, OnOk, length};
 ghost use Rattle.crawl_workers.specs.Shifts.{IsShift};
 ghost use Rattle.page_worker.specs.World.{world_of};
 ghost use Rattle.job_line.specs.Limits.{IsCrew, max_jobs};
-ghost use Rattle.crawl_shift.specs.Histories.{AreWholeHistory, WritesJobs, WritesReceipts, WritesShift};
+ghost use Rattle.crawl_shift.specs.Histories.{AreWholeHistory, DoesJobs, WritesJobs, WritesReceipts};
 
 use crate::both::Both;
 use crate::flushing::{Flushes, ShiftWork, flush_in_time};
-use crate::job_list::read_jobs_among;
+use crate::job_lines::{BadLines, read_job_lines};
 use crate::not_shifted::NotShifted;
 use crate::progress::Progress;
 use crate::status_line::StatusLine;
 use crate::table::Table;
 use counted_io::{Output, Sink, Source};
 use crawl_job::Job;
-use crawl_workers::{Clock, Fetcher, Report, ShiftCrew, ShiftFault, Watcher};
+use crawl_workers::{Report, ShiftCrew, ShiftFault, Watcher};
+use fetchers::Fetcher;
 use gate_lock::{Gate, GateLock, Held, Receipts};
 use gate_settlement::{SettleFault, settle_in};
 use history_text::export;
-use job_line::{MAX_JOBS, MAX_WORKERS};
+use page_worker::Clock;
 use std::alloc::Global;
 use std::sync::Wait;
 use std::thread::Threads;
@@ -45,9 +46,9 @@ impl<
     C: Clock + Sync,
     R: Threads + Wait + time::Clock + Sync,
 > Shift<'_, '_, E, F, C, R> {
-    /// Reads the jobs to the end of the input, does them over the gate, and writes the report. After a
-    /// failed write of it nothing more is fetched.
-    pub fn report<G: Gate + Send + Sync, S: Source, W: Sink + Send>(
+    /// Reads the jobs to the end of the input, does them over the gate, and writes the report. Nothing is
+    /// fetched if a line can't be read as a job, or after a failed write of the report.
+    pub fn report_lines<G: Gate + Send + Sync, S: Source, W: Sink + Send>(
         &self,
         reader: &mut S,
         writer: &mut W,
@@ -55,14 +56,20 @@ impl<
     ) -> Result<(), NotShifted>
         requires { IsCrew self.now.workers }
     {
-        let jobs = read_jobs_among(self.alloc, self.fetcher.schemes(), reader)?;
-        self.report_jobs(jobs.as_slice(), writer, gate, Vec::new(self.alloc), &())
+        let lines = read_job_lines(self.alloc, self.fetcher.schemes(), BadLines::End, reader)?;
+        self.report(
+            lines.jobs.as_slice(),
+            writer,
+            gate,
+            Vec::new(self.alloc),
+            &(),
+        )
     }
 
     /// Does these jobs over a gate with these receipts of earlier entries, and writes the report, with the
     /// starts of its own jobs; the watcher gets their events too. After a failed write of the report nothing
     /// more is fetched.
-    pub fn report_jobs<G: Gate + Send + Sync, W: Sink + Send, V: Watcher + Sync>(
+    pub fn report<G: Gate + Send + Sync, W: Sink + Send, V: Watcher + Sync>(
         &self,
         jobs: &[Job],
         writer: &mut W,
@@ -72,6 +79,9 @@ impl<
     ) -> Result<(), NotShifted>
         requires jobs { length jobs.now ≤ max_jobs }
         requires workers { IsCrew self.now.workers }
+        ensures { OnOk result (DoesJobs
+            (world_of (F.gives self.now.fetcher.now) (F.follows self.now.fetcher.now) (C.reads self.now.clock.now))
+            self.now.workers jobs.now past.items) }
     {
         let before = starts_of(past.as_slice());
         let progress = Progress::new(self.rt, self.alloc, writer, self.fetcher, jobs.len())?;
@@ -81,22 +91,9 @@ impl<
         Ok(())
     }
 
-    /// Reads and does the jobs as `report` does, and writes a table: a line for each hop soon after its
-    /// end.
-    pub fn table<G: Gate + Send + Sync, S: Source, W: Sink + Send>(
-        &self,
-        reader: &mut S,
-        writer: &mut W,
-        gate: &GateLock<G>,
-    ) -> Result<(), NotShifted>
-        requires { IsCrew self.now.workers }
-    {
-        let jobs = read_jobs_among(self.alloc, self.fetcher.schemes(), reader)?;
-        self.table_jobs(jobs.as_slice(), writer, gate, Vec::new(self.alloc))
-    }
-
-    /// Does these jobs over a gate with these receipts of earlier entries, and writes the table.
-    pub fn table_jobs<G: Gate + Send + Sync, W: Sink + Send>(
+    /// Does these jobs over a gate with these receipts of earlier entries, and writes a table: a line for each
+    /// hop soon after its end.
+    pub fn table<G: Gate + Send + Sync, W: Sink + Send>(
         &self,
         jobs: &[Job],
         writer: &mut W,
@@ -105,6 +102,9 @@ impl<
     ) -> Result<(), NotShifted>
         requires jobs { length jobs.now ≤ max_jobs }
         requires workers { IsCrew self.now.workers }
+        ensures { OnOk result (DoesJobs
+            (world_of (F.gives self.now.fetcher.now) (F.follows self.now.fetcher.now) (C.reads self.now.clock.now))
+            self.now.workers jobs.now past.items) }
     {
         let table = Table::new(self.rt, self.alloc, writer, self.fetcher)?;
         self.run_flushed(jobs, gate, past, &table, &())?;
@@ -112,27 +112,10 @@ impl<
         Ok(())
     }
 
-    /// Reads the jobs to the end of the input, does them over the gate, and writes the gate's history by
-    /// the workers' receipts. An audit of it shows that each page was allowed when its fetch began. Nothing
-    /// is written unless all jobs were done.
-    pub fn history<G: Gate + Send + Sync, S: Source, W: Sink>(
-        &self,
-        reader: &mut S,
-        writer: &mut W,
-        gate: &GateLock<G>,
-    ) -> Result<(), NotShifted>
-        requires { IsCrew self.now.workers }
-        ensures { OnOk result (WritesShift
-            (world_of (F.gives self.now.fetcher.now) (F.follows self.now.fetcher.now) (C.reads self.now.clock.now))
-            self.now.workers (S.left reader.old) (S.left reader.new)
-            (W.written writer.old) (W.written writer.new)) }
-    {
-        let jobs = read_jobs_among(self.alloc, self.fetcher.schemes(), reader)?;
-        self.history_jobs(jobs.as_slice(), writer, gate, &())
-    }
-
-    /// Does these jobs over the gate, and writes its history; the watcher gets their events.
-    pub fn history_jobs<G: Gate + Send + Sync, W: Sink, V: Watcher + Sync>(
+    /// Does these jobs over the gate, and writes its history by the workers' receipts; the watcher gets their
+    /// events. An audit of it shows that each page was allowed when its fetch began. Nothing is written
+    /// unless all jobs were done.
+    pub fn history<G: Gate + Send + Sync, W: Sink, V: Watcher + Sync>(
         &self,
         jobs: &[Job],
         writer: &mut W,
@@ -160,18 +143,26 @@ impl<
         past: Vec<Receipts<G>>,
         first: &A,
         second: &B,
-    ) -> Result<Report<G>, ShiftFault> {
+    ) -> Result<Report<G>, ShiftFault>
+        requires jobs { length jobs.now ≤ max_jobs }
+        requires workers { IsCrew self.now.workers }
+        ensures { IfOk result (IsShift
+            (world_of (F.gives self.now.fetcher.now) (F.follows self.now.fetcher.now) (C.reads self.now.clock.now))
+            jobs.now self.now.workers past.items) }
+    {
         let work = ShiftWork::not_begun();
         let (report, ()) = thread::join(
             self.rt,
-            || self.run_to_end(jobs, gate, past, first, second, &work),
+            || -> Result<Report<G>, ShiftFault>
+                requires jobs { length jobs.now ≤ max_jobs }
+                requires workers { IsCrew self.now.workers }
+            { self.run_to_end(jobs, gate, past, first, second, &work) },
             || flush_in_time(self.rt, first, &work),
         );
         report
     }
 
-    // Like `run_both`, and says when the work begins and ends. The numbers of jobs and workers are checked again, since
-    // the closure of a thread can't rely on its maker's conditions.
+    // Like `run_both`, and says when the work begins and ends.
     fn run_to_end<G: Gate + Send + Sync, A: Watcher + Sync, B: Watcher + Sync>(
         &self,
         jobs: &[Job],
@@ -180,13 +171,15 @@ impl<
         first: &A,
         second: &B,
         work: &ShiftWork,
-    ) -> Result<Report<G>, ShiftFault> {
+    ) -> Result<Report<G>, ShiftFault>
+        requires jobs { length jobs.now ≤ max_jobs }
+        requires workers { IsCrew self.now.workers }
+        ensures { IfOk result (IsShift
+            (world_of (F.gives self.now.fetcher.now) (F.follows self.now.fetcher.now) (C.reads self.now.clock.now))
+            jobs.now self.now.workers past.items) }
+    {
         work.begin(self.rt);
-        let report = if jobs.len() as u64 <= MAX_JOBS && is_crew(self.workers) {
-            self.run_both(jobs, gate, past, first, second)
-        } else {
-            Err(ShiftFault::DesksFull)
-        };
+        let report = self.run_both(jobs, gate, past, first, second);
         work.end(self.rt);
         report
     }
@@ -251,13 +244,6 @@ impl<
         self.status.erase();
         report
     }
-}
-
-// Whether a shift may have so many workers.
-pub(crate) fn is_crew(workers: u64) -> bool
-    ensures { IsTrue result → IsCrew workers }
-{
-    1 <= workers && workers <= MAX_WORKERS
 }
 
 // How many fetches were started, by these receipts.

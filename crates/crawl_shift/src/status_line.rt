@@ -1,8 +1,9 @@
 //! A progress line at a terminal, rewritten during the work.
 use counted_io::{DeviceFault, Output, Sink};
 use crawl_job::{Job, Outcome};
-use crawl_workers::{Event, Watcher};
+use crawl_workers::Watcher;
 use line_text::{Piece, Pieces};
+use page_worker::Event;
 use std::alloc::{AllocError, Global};
 use std::sync::{Mutex, Wait};
 use std::time;

@@ -16,8 +16,7 @@ mod strangers;
 mod turns;
 
 pub use crawl_job::{Hop, Job, Outcome, Refusal};
-pub use fetchers::{Fetcher, PageLeave, RobotsLeave, TcpFetcher};
-pub use http_client::{Deadline, Failure, TimeLimits};
-pub use page_worker::{Clock, ClosedBy, Event, refresh, work};
+pub use fetchers::{Fetcher, TcpFetcher};
+pub use page_worker::{Clock, refresh, work};
 pub use report::{Crawled, Report, ShiftFault, Watcher};
 pub use shift::{ShiftCrew, run_shift};

@@ -2,14 +2,14 @@
 //! RFC 9309, section 2.2.1; RFC 9110, section 10.1.5.
 ghost use Rattle.program_arguments.specs.Contacts.{IsAllowedContact};
 
-use crawl_workers::TcpFetcher;
+use fetchers::TcpFetcher;
 use http_client::{AddressBlock, Reach, TimeLimits};
 use program_arguments::Contact;
 use std::alloc::AllocError;
 use std::net::SocketAddr;
 
 // The agent for robots.txt files. Pages have their job's token.
-const AGENT: &[u8] = b"crawlgate";
+const AGENT: &str = "crawlgate";
 
 /// How fetches reach sites.
 #[derive(Clone, Copy)]
@@ -40,6 +40,6 @@ pub(crate) fn new_fetcher(
     let fetcher = fetcher.keeping(ways.texts.unwrap_or(u64::MAX));
     match contact {
         Contact::Untold => Ok(fetcher),
-        Contact::Text(text) => fetcher.with_contact(text.as_bytes()),
+        Contact::Text(text) => fetcher.with_contact(text.as_str()),
     }
 }

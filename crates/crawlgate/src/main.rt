@@ -3,18 +3,18 @@
 #![tactic(auto)]
 
 mod fetching;
-mod journal;
+mod journal_start;
 mod recorded_shift;
 mod serving;
 mod tls_program;
 
-ghost use Rattle.std.specs.Prelude.{◌≡◌, ◌≤◌, [], IfOk, length};
-ghost use Rattle.journal_resume.specs.Resuming.{IsIdle};
+ghost use Rattle.std.specs.Prelude.{◌≡◌, ◌≤◌, IfOk, length};
+ghost use Rattle.gate_journal.specs.Resuming.{IsIdle};
 ghost use Rattle.job_line.specs.Limits.{IsCrew, max_jobs};
 ghost use Rattle.program_arguments.specs.Options.{AreForShift};
 
 use crate::fetching::{Ways, new_fetcher};
-use crate::journal::{JournalStart, OpenJournal, Past, begin_with, clock_of, open_journal};
+use crate::journal_start::{JournalStart, OpenJournal, Past, begin_with, clock_of, open_journal};
 use crate::recorded_shift::shift_recorded;
 use crate::serving::serve;
 use crate::tls_program::find_tls_program;
@@ -24,8 +24,9 @@ use crawl_shift::{
     BadJobLine, BadLines, ClosedSites, JobLines, JobLinesFault, NotShifted, Shift, StatusLine,
     read_job_lines, tell_bad_lines,
 };
-use crawl_workers::{Clock, Fetcher};
+use fetchers::Fetcher;
 use gate_lock::{Blanks, Gate, GateLock};
+use page_worker::Clock;
 use program_arguments::{BadJobs, ShiftOptions, ShiftOutput};
 use program_commands::{
     Ending, Next, Reasoned, Stream, run, tell_bad_line, tell_ending, tell_failed,

@@ -3,20 +3,19 @@
 ghost use Rattle.std.specs.Prelude.{◌≤◌, length};
 ghost use Rattle.job_line.specs.Limits.{IsCrew, max_jobs};
 
-use crate::journal::{OpenJournal, Past};
+use crate::journal_start::{OpenJournal, Past};
 use crate::shift_ending;
 use counted_io::{Counted, Sink};
 use crawl_job::Job;
 use crawl_shift::{ClosedSites, NotShifted, Shift};
-use crawl_workers::{Clock, Fetcher};
+use fetchers::Fetcher;
 use gate_journal::Recording;
 use gate_lock::{Gate, GateLock, Receipts};
 use job_line::{MAX_JOBS, MAX_WORKERS};
-use journal_files::{Abreast, GroupJournal, Recorder, Unrecorded};
-use journal_keepers::FetchesBehind;
-use journal_tape::Behind;
-use keepers::{DeskKeeper, Keeper, NoKeeper};
-use path_normal::Authority;
+use journal::{Abreast, Behind, GroupJournal, Recorder, Unrecorded};
+use journal_keepers::{FetchesBehind, Looks};
+use keepers::{NoKeeper, fetch_anew};
+use page_worker::Clock;
 use program_arguments::ShiftOutput;
 use program_commands::{Ending, Reasoned, Stream, tell_failed, tell_failed_journal};
 use std::sync::Wait;
@@ -129,16 +128,11 @@ impl<
     // Records entries until the jobs have ended, and then all that is left.
     fn record(&self, ended: &AtomicU64) {
         let rt = self.chronicle.rt;
-        let mut looks: u64 = 0;
+        let mut looks = Looks::new(SYNC_LOOKS);
         for _ in rt.forever() {
             let is_last = ended.load(Ordering::SeqCst) > 0;
-            looks = looks.wrapping_add(1);
             // (a fault is kept, and each write returns it)
-            let _ = if is_last || looks % SYNC_LOOKS == 0 {
-                self.journal.see_to(rt, self.chronicle)
-            } else {
-                self.journal.come_up(rt, self.chronicle)
-            };
+            let _ = looks.look(rt, self.chronicle, self.journal, is_last);
             if is_last {
                 return;
             }
@@ -230,27 +224,23 @@ impl<
             return Err(NoKeeper::NoMemory);
         }
         if !sites.is_empty() {
-            let fetched = self.fetch_anew(shift, sites.as_slice())?;
+            let (fetcher, clock) = (shift.fetcher, shift.clock);
+            // (the jobs wait for all)
+            let left = AtomicU64::new(1);
+            let fetched = fetch_anew(
+                shift.rt,
+                shift.alloc,
+                self.gate,
+                fetcher,
+                clock,
+                sites.as_slice(),
+                &left,
+            )?;
             if all.push(fetched).is_err() {
                 return Err(NoKeeper::NoMemory);
             }
         }
         Ok(all)
-    }
-
-    // Fetches these sites' robots.txt files at its own desk.
-    fn fetch_anew<E: Sink + Send, F: Fetcher + Sync, C: Clock + Sync>(
-        &self,
-        shift: &Shift<'_, '_, E, F, C, R>,
-        sites: &[Authority],
-    ) -> Result<Receipts<G>, NoKeeper> {
-        let gate = self.gate;
-        let mut keeper = DeskKeeper::open(shift.rt, shift.alloc, gate, shift.fetcher)?;
-        for site in sites {
-            // (without room in the history its old answer stays)
-            let _ = keeper.refresh(shift.alloc, site, shift.clock);
-        }
-        Ok(keeper.close())
     }
 
     // What records before each write and fetch.
@@ -284,8 +274,8 @@ fn write_told<
     requires workers { IsCrew shift.now.workers }
 {
     match told {
-        ShiftOutput::Table => shift.table_jobs(jobs, writer, gate, past),
-        ShiftOutput::Outcomes => shift.report_jobs(jobs, writer, gate, past, closed),
-        ShiftOutput::History => shift.history_jobs(jobs, writer, gate, closed),
+        ShiftOutput::Table => shift.table(jobs, writer, gate, past),
+        ShiftOutput::Outcomes => shift.report(jobs, writer, gate, past, closed),
+        ShiftOutput::History => shift.history(jobs, writer, gate, closed),
     }
 }

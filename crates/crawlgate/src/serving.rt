@@ -1,17 +1,17 @@
 //! `crawlgate serve`: serves clients that connect to its gate.
 ghost use Rattle.std.specs.Prelude.{◌≡◌};
-ghost use Rattle.journal_resume.specs.Resuming.{IsIdle};
+ghost use Rattle.gate_journal.specs.Resuming.{IsIdle};
 ghost use Rattle.job_line.specs.Limits.{IsCrew};
 ghost use Rattle.program_arguments.specs.Options.{AreForServe};
 
 use crate::fetching::{Ways, new_fetcher};
-use crate::journal::{JournalStart, OpenJournal, Past, begin_with, clock_of, open_journal};
+use crate::journal_start::{JournalStart, OpenJournal, Past, begin_with, clock_of, open_journal};
 use crate::tls_program::find_tls_program;
 use client_connections::Listener;
 use gate_journal::Recording;
 use gate_lock::{Blanks, Gate, GateLock};
 use gate_settlement::SettleFault;
-use journal_files::{GroupJournal, Recorder, Unrecorded};
+use journal::{GroupJournal, Recorder, Unrecorded};
 use keepers::Bounds;
 use line_server::{Alarm, ServeFault, Served, Server};
 use program_arguments::{Ahead, ListenAddress, ServeOptions};
@@ -294,7 +294,7 @@ fn run_behind<
     match tell_places(host, options, server.listener, server.overseers) {
         Ending::Done => {
             let Past { receipts, sites } = past;
-            let end = server.run_resumed(gate, receipts, sites.as_slice(), journal);
+            let end = server.run(gate, receipts, sites.as_slice(), journal);
             ending(host, end)
         }
         ending => ending,

@@ -1,6 +1,6 @@
 -- The results of a network, and what contracts see of a TCP fetcher.
 -- `TcpFetcher` cites it.
-use Rattle.std.specs.Prelude.{◌≡◌, ℕ, List, [], ◌++◌, Option, None, Some, IfSome, Result, Vec, codes}
+use Rattle.std.specs.Prelude.{◌≡◌, ℕ, List, [], ◌++◌, Option, None, Some, IfSome, Result, String, codes, string_bytes}
 use Rattle.std.specs.declared.alloc.Global.{Global}
 use Rattle.http_client.specs.Agent.{IsAgent}
 use Rattle.http_wire.specs.declared.fault.WireFault.{WireFault}
@@ -31,9 +31,9 @@ agent_with agent None = agent
 agent_with agent (Some comment) = agent ++ (codes " (" ++ (comment ++ codes ")"))
 
 -- the octets of the kept comment
-abbrev pub contact_of : Option (Vec ℕ Global) → Option (List ℕ)
+abbrev pub contact_of : Option (String Global) → Option (List ℕ)
 contact_of None = None
-contact_of (Some contact) = Some contact.items
+contact_of (Some contact) = Some (string_bytes contact)
 
 -- no octet ends the line
 abbrev pub IsContact : Option (List ℕ) → Type 0

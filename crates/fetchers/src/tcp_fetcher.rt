@@ -1,6 +1,6 @@
 //! Pages and robots.txt files fetched over TCP, each under its agent.
 //! RFC 9309, section 2.2.1; RFC 9110, section 10.1.5.
-ghost use Rattle.std.specs.Prelude.{◌≡◌, [], IfOk, IfSome, None, Some};
+ghost use Rattle.std.specs.Prelude.{◌≡◌, IfOk, IfSome, None, Some, string_bytes};
 ghost use Rattle.path_normal.specs.declared.schemes.Schemes.TheVariants.{Http};
 ghost use Rattle.http_wire.specs.Response.{Tells};
 ghost use Rattle.http_client.specs.Agent.{IsAgent};
@@ -31,20 +31,22 @@ const ROBOTS_LIMIT: usize = MAX_TEXT + 1;
 #[derive(Drop)]
 pub struct TcpFetcher<R: Net<Stream = TcpStream> + time::Clock> {
     client: TcpClient<R>,
-    agent: Vec<u8>,
-    contact: Option<Vec<u8>>,
+    alloc: Global,
+    agent: String,
+    contact: Option<String>,
     schemes: Schemes,
     texts: TextRoom,
 }
 
 impl<R: Net<Stream = TcpStream> + time::Clock> Model for TcpFetcher<R> {
+    ghost use Rattle.std.specs.Prelude.{string_bytes};
     ghost use Rattle.http_client.specs.Agent.{IsAgent};
     ghost use Rattle.fetchers.specs.Network.{TcpView, contact_of, IsContact};
 
     ghost Value = { TcpView };
 
     ghost view = { λ fetcher. record {
-      agent = fetcher.agent.items;
+      agent = string_bytes fetcher.agent;
       contact = contact_of fetcher.contact;
       limits = fetcher.client.limits;
       reach = fetcher.client.reach;
@@ -53,12 +55,13 @@ impl<R: Net<Stream = TcpStream> + time::Clock> Model for TcpFetcher<R> {
       texts = fetcher.texts;
     } };
 
-    ghost invariant = { λ fetcher. IsAgent fetcher.agent.items × IsContact (contact_of fetcher.contact) };
+    ghost invariant = { λ fetcher. IsAgent (string_bytes fetcher.agent)
+        × IsContact (contact_of fetcher.contact) };
 }
 
 impl<R: Net<Stream = TcpStream> + time::Clock> TcpFetcher<R> {
     /// A fetcher of http with the standard time limits.
-    pub fn new(alloc: Global, rt: R, agent: &[u8]) -> Result<TcpFetcher<R>, AllocError>
+    pub fn new(alloc: Global, rt: R, agent: &str) -> Result<TcpFetcher<R>, AllocError>
     where
         R: Drop,
         requires { IsAgent agent.now }
@@ -73,7 +76,7 @@ impl<R: Net<Stream = TcpStream> + time::Clock> TcpFetcher<R> {
     pub fn with_limits(
         alloc: Global,
         rt: R,
-        agent: &[u8],
+        agent: &str,
         limits: TimeLimits,
         reach: Reach,
     ) -> Result<TcpFetcher<R>, AllocError>
@@ -89,7 +92,7 @@ impl<R: Net<Stream = TcpStream> + time::Clock> TcpFetcher<R> {
     pub fn with_tls(
         alloc: Global,
         rt: R,
-        agent: &[u8],
+        agent: &str,
         limits: TimeLimits,
         reach: Reach,
         tls_by: Option<SocketAddr>,
@@ -100,7 +103,8 @@ impl<R: Net<Stream = TcpStream> + time::Clock> TcpFetcher<R> {
         ensures { IfOk result (IsFetcherOf agent.now limits reach (schemes_by tls_by)) }
     {
         Ok(TcpFetcher {
-            agent: Vec::from_slice(alloc, agent)?,
+            alloc,
+            agent: String::from_str(alloc, agent)?,
             contact: None,
             client: TcpClient::with_tls(rt, limits, reach, tls_by),
             schemes: schemes_by(tls_by),
@@ -109,7 +113,7 @@ impl<R: Net<Stream = TcpStream> + time::Clock> TcpFetcher<R> {
     }
 
     /// This fetcher with a contact in each request: a comment after the agent or a crawler's token.
-    pub fn with_contact(self, contact: &[u8]) -> Result<TcpFetcher<R>, AllocError>
+    pub fn with_contact(self, contact: &str) -> Result<TcpFetcher<R>, AllocError>
     where
         R: Drop,
         requires { IsAgent contact.now }
@@ -118,11 +122,11 @@ impl<R: Net<Stream = TcpStream> + time::Clock> TcpFetcher<R> {
           contact = Some contact.now;
         }) }
     {
-        let alloc = self.allocator();
-        let whole = with_comment(alloc, self.agent.as_slice(), contact)?;
-        let contact = Vec::from_slice(alloc, contact)?;
+        let whole = with_comment(self.alloc, self.agent.as_str(), contact)?;
+        let contact = String::from_str(self.alloc, contact)?;
         let TcpFetcher {
             client,
+            alloc,
             agent: _,
             contact: _,
             schemes,
@@ -130,6 +134,7 @@ impl<R: Net<Stream = TcpStream> + time::Clock> TcpFetcher<R> {
         } = self;
         Ok(TcpFetcher {
             client,
+            alloc,
             agent: whole,
             contact: Some(contact),
             schemes,
@@ -146,6 +151,7 @@ impl<R: Net<Stream = TcpStream> + time::Clock> TcpFetcher<R> {
     {
         let TcpFetcher {
             client,
+            alloc,
             agent,
             contact,
             schemes,
@@ -153,6 +159,7 @@ impl<R: Net<Stream = TcpStream> + time::Clock> TcpFetcher<R> {
         } = self;
         TcpFetcher {
             client: client.avoiding(not_to),
+            alloc,
             agent,
             contact,
             schemes,
@@ -168,6 +175,7 @@ impl<R: Net<Stream = TcpStream> + time::Clock> TcpFetcher<R> {
     {
         let TcpFetcher {
             client,
+            alloc,
             agent,
             contact,
             schemes,
@@ -175,6 +183,7 @@ impl<R: Net<Stream = TcpStream> + time::Clock> TcpFetcher<R> {
         } = self;
         TcpFetcher {
             client,
+            alloc,
             agent,
             contact,
             schemes,
@@ -182,14 +191,10 @@ impl<R: Net<Stream = TcpStream> + time::Clock> TcpFetcher<R> {
         }
     }
 
-    fn allocator(&self) -> Global {
-        *self.agent.allocator()
-    }
-
     // Fetches a page under a crawler's agent, with the contact after it.
     fn fetch_under(
         &self,
-        agent: &[u8],
+        agent: &str,
         url: &PageUrl,
         limit: usize,
         failure: &mut Option<Failure>,
@@ -197,13 +202,12 @@ impl<R: Net<Stream = TcpStream> + time::Clock> TcpFetcher<R> {
         requires { IsAgent agent.now }
         ensures { Tells None limit result }
     {
-        let alloc = self.allocator();
         match &self.contact {
-            None => self.client.fetch(alloc, url, agent, limit, failure),
+            None => self.client.fetch(self.alloc, url, agent, limit, failure),
             Some(contact) => {
-                let agent = with_comment(alloc, agent, contact.as_slice())?;
+                let agent = with_comment(self.alloc, agent, contact.as_str())?;
                 self.client
-                    .fetch(alloc, url, agent.as_slice(), limit, failure)
+                    .fetch(self.alloc, url, agent.as_str(), limit, failure)
             }
         }
     }
@@ -248,7 +252,7 @@ impl<R: Net<Stream = TcpStream> + time::Clock> Fetcher for TcpFetcher<R> {
     ) -> Result<HttpReply, WireFault>
         ensures { Tells None limit result }
     {
-        let given = self.fetch_under(leave.token().text().as_bytes(), leave.url(), limit, failure);
+        let given = self.fetch_under(leave.token().text(), leave.url(), limit, failure);
         leave.spend();
         given
     }
@@ -265,26 +269,31 @@ impl<R: Net<Stream = TcpStream> + time::Clock> Fetcher for TcpFetcher<R> {
             leave.spend();
             return Err(WireFault::Device);
         };
-        let agent = self.agent.as_slice();
-        let alloc = self.allocator();
-        let given = self
-            .client
-            .fetch_by(alloc, leave.url(), agent, ROBOTS_LIMIT, deadline, failure);
+        let agent = self.agent.as_str();
+        let given = self.client.fetch_by(
+            self.alloc,
+            leave.url(),
+            agent,
+            ROBOTS_LIMIT,
+            deadline,
+            failure,
+        );
         leave.spend();
         given
     }
 }
 
 // The agent and the comment. RFC 9110, section 5.6.5.
-fn with_comment(alloc: Global, agent: &[u8], comment: &[u8]) -> Result<Vec<u8>, AllocError>
+fn with_comment(alloc: Global, agent: &str, comment: &str) -> Result<String, AllocError>
     requires { IsAgent agent.now × IsAgent comment.now }
-    ensures text { IfOk result (λ made. made.items ≡ agent_with agent.now (Some comment.now)) }
-    ensures line { IfOk result (λ made. IsAgent made.items) }
+    ensures text { IfOk result
+        (λ made. string_bytes made ≡ agent_with agent.now (Some comment.now)) }
+    ensures line { IfOk result (λ made. IsAgent (string_bytes made)) }
 {
-    let mut made = Vec::from_slice(alloc, agent)?;
-    made.extend_from_slice(b" (")?;
-    made.extend_from_slice(comment)?;
-    made.push(b')')?;
+    let mut made = String::from_str(alloc, agent)?;
+    made.push_str(" (")?;
+    made.push_str(comment)?;
+    made.push_str(")")?;
     Ok(made)
 }
 

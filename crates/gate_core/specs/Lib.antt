@@ -7,7 +7,6 @@ pub mod PlaceCounts
 pub mod PermitUrls
 pub mod Refused
 pub mod Kept
-pub mod Judged
 pub mod Replies
 pub mod Sealing
 pub mod Resuming

@@ -28,7 +28,7 @@ StandsAs (Some s) moment state =
 
 -- what is known of an authority: its answer's state, and whether a turn is in flight
 pub record IsState (h : History) (authority : List ℕ) (moment : ℕ) (state : State) : Type 0 where
-  pub standing : StandsAs (standing_of h authority) moment state.standing
+  pub standing : StandsAs (standing_of h authority) moment state.word
   pub fetching : state.fetching ≡ is_fetching h authority
 
 -- rules of this text are in force for the authority now

@@ -15,9 +15,9 @@ use crate::book::Book;
 use crate::judged::Judged;
 use crate::place_counts::PlaceCounts;
 use crate::refusal::{AskRefusal, Denial};
-use gate_history::{Cause, Entry, FetchText, Ruling};
+use gate_history::{Cause, Entry, Ruling};
 use path_normal::PageUrl;
-use permit_book::{PermitNo, Permits};
+use permit_book::{Fetch, PermitNo, Permits};
 use robots_text::Token;
 use std::alloc::AllocError;
 
@@ -26,12 +26,8 @@ impl Book {
     pub fn ask(&mut self, token: Token, url: PageUrl, moment: u64) -> Result<PermitNo, AskRefusal>
         ensures { Asks self.old token url moment result self.new }
     {
-        if !self.has_room(3) {
-            return Err(AskRefusal::LogFull);
-        }
         self.cache.make_index(url.authority());
-        let judged = Judged::new(token, url)?;
-        self.ask_judged(judged, moment)
+        self.ask_judged(Judged::new(None, token, url), moment)
     }
 
     /// Asks with an ask that was prepared before. Its verdict counts only if the answer in force now has
@@ -43,19 +39,17 @@ impl Book {
             return Err(AskRefusal::LogFull);
         }
         let moment = self.moment_of_call(moment);
-        let Judged {
-            token,
-            url,
-            fetch,
-            ruling,
-        } = judged;
-        let decided = self.decide(&token, &url, ruling.as_ref(), moment);
-        self.take_index(url.authority(), ruling);
+        let Judged { fetch, ruling } = judged;
+        let decided = self.decide(&fetch.token, &fetch.url, ruling.as_ref(), moment);
+        self.take_index(fetch.url.authority(), ruling);
         match decided {
-            Ok(_) => self.grant(token, url, fetch, moment),
+            Ok(_) => self.grant(fetch, moment),
             Err(cause) => {
-                self.deny(fetch, cause, moment)?;
-                Err(AskRefusal::Denied(Denial { url, cause }))
+                self.deny(&fetch, cause, moment)?;
+                Err(AskRefusal::Denied(Denial {
+                    url: fetch.url,
+                    cause,
+                }))
             }
         }
     }
@@ -69,18 +63,20 @@ impl Book {
         }
     }
 
-    fn deny(&mut self, fetch: FetchText, cause: Cause, moment: u64) -> Result<(), AllocError>
+    fn deny(&mut self, fetch: &Fetch, cause: Cause, moment: u64) -> Result<(), AllocError>
         requires room { HasRoom self.old 3 }
         requires late { now (history self.old) ≤ moment }
-        requires decided { Decides (history self.old) fetch.token fetch.url moment (Err cause) }
-        ensures ok { OnOk result (Adds self.old (AskDenied moment fetch cause) self.new) }
+        requires decided { Decides (history self.old) fetch.now.token fetch.now.url moment
+            (Err cause) }
+        ensures ok { OnOk result (Adds self.old (AskDenied moment fetch.now cause) self.new) }
         ensures err { OnErr result (Stays self.old self.new) }
     {
+        let entered = fetch.copy()?;
         let promised = self.promised();
         self.entries.reserve(promised as usize + 1)?;
         self.entries.push_reserved(Entry::AskDenied {
             moment,
-            fetch,
+            fetch: entered,
             cause,
         });
         self.clock = moment;
@@ -88,24 +84,17 @@ impl Book {
     }
 
     // Makes room for the permit with its start and end, and grants it if the authority has a place.
-    fn grant(
-        &mut self,
-        token: Token,
-        url: PageUrl,
-        fetch: FetchText,
-        moment: u64,
-    ) -> Result<PermitNo, AskRefusal>
+    fn grant(&mut self, fetch: Fetch, moment: u64) -> Result<PermitNo, AskRefusal>
         requires room { HasRoom self.old 3 }
         requires late { now (history self.old) ≤ moment }
         requires decided { (reason : Why)
-            × Decides (history self.old) token url moment (Ok reason) }
-        requires fetch { fetch ≡ record { token = token; url = url } }
-        ensures { Grants self.old token url moment result self.new }
+            × Decides (history self.old) fetch.token fetch.url moment (Ok reason) }
+        ensures { Grants self.old fetch.token fetch.url moment result self.new }
     {
         let promised = self.promised();
         self.entries.reserve(promised as usize + 3)?;
         let most = self.limits.places;
-        let number = take_permit(&mut self.permits, &mut self.places, most, token, url)?;
+        let number = take_permit(&mut self.permits, &mut self.places, most, &fetch)?;
         self.entries.push_reserved(Entry::Granted {
             moment,
             number,
@@ -116,23 +105,23 @@ impl Book {
     }
 }
 
-// Grants and counts the table's next permit, if the authority is below its limit and a slot is free. If
-// memory runs out, dropping the draft leaves the table unchanged.
+// Grants and counts the table's next permit for a fetch, if the authority is below its limit and a slot is
+// free. If memory runs out, dropping the draft leaves the table unchanged.
 fn take_permit(
     permits: &mut Permits,
     places: &mut PlaceCounts,
     most: u64,
-    token: Token,
-    url: PageUrl,
+    fetch: &Fetch,
 ) -> Result<PermitNo, AskRefusal>
     requires { most ≤ most_places }
     ensures ok { IfOk result (λ number.
-        TakesPermit permits.old (held_by places.old) most token url number permits.new
-        (held_by places.new)) }
+        TakesPermit permits.old (held_by places.old) most fetch.now.token fetch.now.url number
+        permits.new (held_by places.new)) }
     ensures err { IfErr result (λ refusal.
-        TakesNone permits.old (held_by places.old) most url refusal permits.new
+        TakesNone permits.old (held_by places.old) most fetch.now.url refusal permits.new
         (held_by places.new)) }
 {
+    let Fetch { token, url } = fetch.copy()?;
     let found = places.find(url.authority());
     if found.count >= most {
         return Err(AskRefusal::Busy);

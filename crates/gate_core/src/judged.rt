@@ -1,87 +1,55 @@
-//! An ask prepared outside the book's lock: its copies are made, and its verdict may be.
+//! An ask prepared outside the book's lock: its verdict may be found already.
 //! RFC 9309, section 2.2.2.
-ghost use Rattle.std.specs.Prelude.{◌≡◌, IfOk};
+ghost use Rattle.std.specs.Prelude.{◌≡◌};
 
-use gate_history::{FetchText, Ruling};
+use gate_history::Ruling;
 use path_normal::PageUrl;
+use permit_book::Fetch;
 use robots_text::Token;
 use robots_verdict::Policy;
-use std::alloc::AllocError;
 use std::marker::Model;
 use std::sync::Arc;
 
-/// A token and URL to ask for, with the texts for the ask's entry, and the verdict of the policy believed
-/// to be in force, if any.
+/// A fetch to ask for, and the verdict of the policy believed to be in force, if any. A clause sees the
+/// fetch.
 #[derive(Drop)]
 pub struct Judged {
-    pub(crate) token: Token,
-    pub(crate) url: PageUrl,
-    pub(crate) fetch: FetchText,
+    pub(crate) fetch: Fetch,
     pub(crate) ruling: Option<Ruling>,
 }
 
 impl Model for Judged {
-    ghost use Rattle.std.specs.Prelude.{◌≡◌, IfSome};
+    ghost use Rattle.std.specs.Prelude.{IfSome};
+    ghost use Rattle.permit_book.specs.declared.out.Fetch.{Fetch};
     ghost use Rattle.gate_history.specs.Ruling.{IsRuling};
-    ghost use Rattle.gate_core.specs.Judged.{Asked};
 
-    ghost Value = { Asked };
+    ghost Value = { Fetch };
 
-    ghost view = { λ judged. record {
-      token = judged.token;
-      url = judged.url;
-    } };
+    ghost view = { λ judged. judged.fetch };
 
-    ghost invariant = { λ judged. (judged.fetch ≡ record {
-      token = judged.token;
-      url = judged.url;
-    }) × IfSome judged.ruling (IsRuling judged.token judged.url) };
+    ghost invariant = { λ judged.
+        IfSome judged.ruling (IsRuling judged.fetch.token judged.fetch.url) };
 }
 
 impl Judged {
-    /// An ask without verdict. Takes no memory: its entry shares the texts.
-    pub fn new(token: Token, url: PageUrl) -> Result<Judged, AllocError>
-        ensures { IfOk result (λ judged. judged ≡ record { token = token; url = url }) }
+    /// An ask for this URL under this token, judged by this policy, if any. It takes no memory and no lock.
+    pub fn new(policy: Option<Arc<Policy>>, token: Token, url: PageUrl) -> Judged
+        ensures { result ≡ record { token = token; url = url } }
     {
-        let fetch = FetchText::of(&token, &url)?;
-        Ok(Judged {
-            token,
-            url,
-            fetch,
-            ruling: None,
-        })
-    }
-
-    /// This ask, judged by a policy. It allocates nothing.
-    pub fn judged_by(self, policy: Arc<Policy>) -> Judged
-        ensures { result ≡ self }
-    {
-        let Judged {
-            token,
-            url,
-            fetch,
-            ..
-        } = self;
-        let ruling = Ruling::of(policy, &token, &url);
+        let ruling = match policy {
+            Some(policy) => Some(Ruling::of(policy, &token, &url)),
+            None => None,
+        };
         Judged {
-            token,
-            url,
-            fetch,
-            ruling: Some(ruling),
+            fetch: Fetch { token, url },
+            ruling,
         }
     }
 
-    /// Its token.
-    pub fn token(&self) -> &Token
-        ensures { result.now ≡ self.now.token }
+    /// The token and URL asked for.
+    pub fn fetch(&self) -> &Fetch
+        ensures { result.now ≡ self.now }
     {
-        &self.token
-    }
-
-    /// Its URL.
-    pub fn url(&self) -> &PageUrl
-        ensures { result.now ≡ self.now.url }
-    {
-        &self.url
+        &self.fetch
     }
 }

@@ -31,7 +31,7 @@ pub enum Standing {
 #[derive(Clone, Copy, Debug, PartialEq, Eq)]
 pub struct State {
     /// The state of the answer.
-    pub standing: Standing,
+    pub word: Standing,
     /// Whether a turn is in flight.
     pub fetching: bool,
 }
@@ -56,13 +56,13 @@ impl Book {
     {
         let moment = self.moment_of_call(moment);
         let found = self.cache.find(authority);
-        let standing = match self.cache.look_at(found, moment) {
+        let word = match self.cache.look_at(found, moment) {
             Look::Unknown => Standing::Unknown,
             Look::Expired => Standing::Expired,
             Look::InForce(answer) => Standing::of(answer),
         };
         State {
-            standing,
+            word,
             fetching: found.is_fetching(),
         }
     }

@@ -2,11 +2,10 @@
 //! RFC 9309, sections 2.2.2, 2.3.1 and 2.4.
 ghost use Rattle.std.specs.Prelude.{◌≡◌, ◌↔◌, IsTrue};
 
-use crate::fetch_text::FetchText;
 use crate::outcome::{Cause, Reason};
 use authority_cache::TurnNo;
 use path_normal::Authority;
-use permit_book::PermitNo;
+use permit_book::{Fetch, PermitNo};
 use robots_verdict::Said;
 
 /// An event of the gate. Moments are seconds, and never fall along a history.
@@ -30,12 +29,12 @@ pub enum Entry {
     Granted {
         moment: u64,
         number: PermitNo,
-        fetch: FetchText,
+        fetch: Fetch,
     },
     /// An ask was denied.
     AskDenied {
         moment: u64,
-        fetch: FetchText,
+        fetch: Fetch,
         cause: Cause,
     },
     /// A permit was spent, and its fetch may begin.

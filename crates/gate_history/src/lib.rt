@@ -4,7 +4,6 @@
 
 mod base;
 mod entry;
-mod fetch_text;
 pub mod laws;
 mod outcome;
 pub mod rows;
@@ -14,7 +13,6 @@ mod wording;
 
 pub use base::{Base, LeftOpen, Numbers, SlotGrant};
 pub use entry::Entry;
-pub use fetch_text::FetchText;
 pub use outcome::{Cause, Reason};
 pub use ruling::{Ruling, decide};
 pub use segment::Segment;

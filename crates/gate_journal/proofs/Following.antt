@@ -8,7 +8,7 @@ use Rattle.gate_history.specs.Segment.{Sealed}
 use Rattle.history_text.specs.declared.version.Version.TheVariants.{Two}
 use Rattle.history_text.specs.Spell.{entry_lines, entry_text, version_line}
 use Rattle.history_text.specs.SpellBase.{base_text, spell_segment}
-use Rattle.journal_files.specs.declared.position.JournalPosition.{JournalPosition}
+use Rattle.journal.specs.declared.position.JournalPosition.{JournalPosition}
 use Rattle.gate_journal.specs.Follows.{Follows, AreBehind, spelled_count, spelled_of}
 
 either_behind : (b : Bool) (p q xs ys : List ℕ) → (if b then p ++ xs else q ++ xs) ++ ys ≡ if b then p ++ (xs ++ ys) else q ++ (xs ++ ys)

@@ -1,3 +1,4 @@
 -- The lemmas of the proofs.
 -- The proof files of this crate cite them.
 mod Following
+mod Lines

@@ -5,9 +5,9 @@ use Rattle.gate_history.specs.declared.entry.Entry.{Entry}
 use Rattle.gate_history.specs.Segment.{Sealed}
 use Rattle.gate_core.specs.declared.refusal.NoMemory.{NoMemory}
 use Rattle.history_text.specs.SpellBase.{spell_segment}
-use Rattle.journal_files.specs.declared.chronicle.Rest.{Rest}
-use Rattle.journal_files.specs.declared.chronicle.Rest.TheVariants.{Nothing, Part, Last}
-use Rattle.journal_files.specs.declared.position.JournalPosition.{JournalPosition}
+use Rattle.journal.specs.declared.chronicle.Rest.{Rest}
+use Rattle.journal.specs.declared.chronicle.Rest.TheVariants.{Nothing, Part, Last}
+use Rattle.journal.specs.declared.position.JournalPosition.{JournalPosition}
 
 -- how many entries of the last file are before this place
 abbrev pub spelled_count : JournalPosition → ℕ

@@ -7,7 +7,7 @@ use Rattle.gate_core.specs.declared.config.Limits.{Limits}
 use Rattle.gate_lock.specs.Desks.{IsGateOf}
 use Rattle.history_text.specs.Exports.{present_segment}
 use Rattle.history_text.specs.SpellBase.{spell_segment}
-use Rattle.journal_files.specs.declared.position.JournalPosition.{JournalPosition}
+use Rattle.journal.specs.declared.position.JournalPosition.{JournalPosition}
 use Rattle.gate_journal.specs.Follows.{SpellsTo}
 
 -- where the text of a gate's whole history ends

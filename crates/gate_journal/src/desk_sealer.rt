@@ -8,7 +8,7 @@ use counted_io::Output;
 use gate_core::NoMemory;
 use gate_history::Segment;
 use gate_lock::{Desk, DesksFull, Gate, GateLock, Receipts};
-use journal_files::{JournalFault, JournalPosition, Rest, Sealer};
+use journal::{JournalFault, JournalPosition, Rest, Sealer};
 use std::alloc::Global;
 use std::sync::Wait;
 

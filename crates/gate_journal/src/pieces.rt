@@ -1,12 +1,12 @@
 //! The entries of a history in pieces, so that the text of each fits into memory that was taken before.
 //! docs/FORMATS.md has the lines.
 ghost use Rattle.std.specs.Prelude.{◌≡◌, ◌≤◌, ◌-◌, [], length, IfOk, IfSome};
-ghost use Rattle.gate_journal.specs.Follows.{AreBehind, IsPlaceIn, SpellsTo, spelled_count};
+ghost use Rattle.gate_journal.specs.Follows.{IsPlaceIn, SpellsTo, spelled_count};
 
 use crate::spelling::{entries_behind, follow};
 use counted_io::Output;
 use gate_history::{Base, Entry};
-use journal_files::{JournalFault, JournalPosition, Spelled};
+use journal::{JournalFault, JournalPosition, Spelled};
 use path_normal::MAX_AUTHORITY;
 use robots_text::MAX_TEXT;
 use robots_verdict::Said;
@@ -87,7 +87,7 @@ fn octets_at_most(entry: &Entry) -> usize {
         } => (LINE + authority.text().len()).saturating_add(escaped_octets(says)),
         Entry::Begun { authority, .. } => LINE + authority.text().len(),
         Entry::Granted { fetch, .. } | Entry::AskDenied { fetch, .. } => {
-            LINE + fetch.url().len()
+            LINE + fetch.url.text().len()
         }
         _ => LINE,
     }

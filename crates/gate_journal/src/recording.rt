@@ -9,7 +9,7 @@ use counted_io::{Counted, DeviceFault, Output, Sink};
 use gate_core::Book;
 use gate_lock::{Gate, SharedBook};
 use history_text::export;
-use journal_files::{Chronicle, JournalFault, JournalPosition, Spelled};
+use journal::{Chronicle, JournalFault, JournalPosition, Spelled};
 use std::alloc::{AllocError, Global};
 use std::io;
 use std::sync::Wait;

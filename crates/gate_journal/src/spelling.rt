@@ -4,7 +4,7 @@ ghost use Rattle.std.specs.Prelude.{◌≡◌, [], IfOk, IfSome, OnOk};
 ghost use Rattle.std.specs.Io.KnownBytes.{Appends};
 ghost use Rattle.history_text.specs.declared.version.Version.TheVariants.{Two};
 ghost use Rattle.history_text.specs.Spell.{entry_lines};
-ghost use Rattle.journal_files.specs.Writing.{IsRest};
+ghost use Rattle.journal.specs.Writing.{IsRest};
 ghost use Rattle.gate_journal.specs.Follows.{AreBehind, EndsFile, Follows, HandsNothing, IsRestIn, PartOf};
 
 use crate::pieces::next_piece;
@@ -12,7 +12,7 @@ use counted_io::{Counted, DeviceFault, Output, Sink};
 use gate_core::NoMemory;
 use gate_history::{Base, Entry, Segment};
 use history_text::push_entries;
-use journal_files::{JournalFault, JournalPosition, Rest};
+use journal::{JournalFault, JournalPosition, Rest};
 
 /// What a journal's file lacks of what a seal handed out, in the memory of `room`: no more than a piece. It
 /// fails if the room is too small and memory runs out, or if the segment does not continue at the place.

@@ -1,7 +1,7 @@
 //! A gate's book, and the ledgers that count what is out.
 //! Each change is one call of the book for one account, which gets the mark of the entry; RFC 9309, sections
 //! 2.3.1 and 2.4.
-ghost use Rattle.std.specs.Prelude.{◌≡◌, ◌+◌, ◌^◌, ◌<◌, ◌∷◌, [], Err, IfSome, length, List, Ok, true, false, ℕ};
+ghost use Rattle.std.specs.Prelude.{◌≡◌, ◌+◌, ◌^◌, ◌<◌, ◌∷◌, [], Err, IfSome, length, Ok, true};
 ghost use Rattle.gate_history.specs.Base.{empty_base};
 ghost use Rattle.gate_history.specs.History.{entry_count};
 ghost use Rattle.gate_history.specs.declared.entry.Entry.TheVariants.{Arrived, Finished, Returned};
@@ -24,10 +24,10 @@ use crate::tally::Tally;
 use authority_cache::{TimedAnswer, TurnNo};
 use gate_core::{AskRefusal, BeginRefusal, Book, Denial, Judged, NoMemory, Started, SweepRefusal};
 use gate_history::laws::{each_entry_counts, no_later_entry_closes};
-use gate_history::{Entry, FetchText, Ruling, Segment};
+use gate_history::{Entry, Ruling, Segment};
 use gate_marks::SealedMarks;
 use path_normal::{Authority, PageUrl};
-use permit_book::PermitNo;
+use permit_book::{Fetch, PermitNo};
 use robots_text::Token;
 use robots_verdict::Answer;
 use std::alloc::Global;
@@ -112,11 +112,11 @@ impl<G: Gate> CountedBook<G> {
         self.book.entry_count()
     }
 
-    /// The book's ask: the number of its permit, and its share. The texts are those of the ask, for the mark.
+    /// The book's ask: the number of its permit, and its share. The fetch is that of the ask, for the mark.
     pub fn ask(
         &mut self,
         judged: Judged,
-        fetch: FetchText,
+        fetch: Fetch,
         moment: u64,
         account: &mut Account<G>,
     ) -> Result<(PermitNo, One<UnspentLedger<G>>), AskRefusal>

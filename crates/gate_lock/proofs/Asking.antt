@@ -6,9 +6,9 @@ use Rattle.std.proofs.lemmas.Bool.{true≢false}
 use Rattle.std.proofs.lemmas.List.{append-nil, length-append}
 use Rattle.gate_core.specs.declared.refusal.AskRefusal.{AskRefusal}
 use Rattle.gate_core.specs.declared.refusal.AskRefusal.TheVariants as ask
+use Rattle.permit_book.specs.declared.out.Fetch.{Fetch}
 use Rattle.gate_history.specs.History.{entry_count}
 use Rattle.gate_core.specs.Gate.{Gate, history}
-use Rattle.gate_core.specs.Judged.{Asked}
 use Rattle.gate_core.specs.Replies.{Asks}
 use Rattle.gate_marks.specs.declared.mark.Mark.{Mark}
 use Rattle.gate_ledgers.specs.Accounts.{AccountView}
@@ -27,7 +27,7 @@ added ms old token url m (Err ask.PermitsFull) = length-append ms []
 added ms old token url m (Err ask.NoMemory) = length-append ms []
 
 pub asked_desk : {seen permits runs turns : ℕ} {a : AccountView} → IsDesk seen permits runs turns a →
-    (old : Gate) (asked : Asked) (m : ℕ) (result : Result Pass AskRefusal) (new : Gate) (seen2 permits2 : ℕ) (a2 : AccountView) →
+    (old : Gate) (asked : Fetch) (m : ℕ) (result : Result Pass AskRefusal) (new : Gate) (seen2 permits2 : ℕ) (a2 : AccountView) →
     AsksRound old asked a m result new a2 → seen ≤ entry_count (history old) → seen2 ≡ entry_count (history new) →
     permits2 ≤ permits + entries_of_ask result → length a.marks + (2 * permits + runs + turns) + 3 * entries_of_ask result ≤ a2.room →
     IsDesk seen2 permits2 runs turns a2
@@ -46,7 +46,7 @@ unmarked : (a a2 : AccountView) → a2 ≡ record a { room = a2.room } → Marks
 unmarked a a2 same = same ∙ (λ i. record a { marks = sym (append-nil a.marks) i; room = a2.room })
 
 -- an ask for whose marks there was no memory
-pub refused_round : (old : Gate) (asked : Asked) (a : AccountView) (m : ℕ) (refusal : AskRefusal) (a2 : AccountView) →
+pub refused_round : (old : Gate) (asked : Fetch) (a : AccountView) (m : ℕ) (refusal : AskRefusal) (a2 : AccountView) →
     Asks old asked.token asked.url m (Err refusal) old → is_denial refusal ≡ false → a2 ≡ record a { room = a2.room } → AsksRound old asked a m (Err refusal) old a2
 refused_round old asked a m (ask.Denied denial) a2 asks none same = absurd (true≢false none)
 refused_round old asked a m ask.LogFull a2 asks none same = record { reply = asks; permit = tt; count = omega arith; marks = unmarked a a2 same }

@@ -5,8 +5,8 @@ use Rattle.gate_core.specs.declared.refusal.AskRefusal.{AskRefusal}
 use Rattle.gate_core.specs.declared.refusal.AskRefusal.TheVariants as ask
 use Rattle.gate_core.specs.declared.refusal.BeginRefusal.{BeginRefusal}
 use Rattle.gate_core.specs.Gate.{Gate, history}
-use Rattle.gate_core.specs.Judged.{Asked}
 use Rattle.gate_core.specs.Replies.{Asks, Begins}
+use Rattle.permit_book.specs.declared.out.Fetch.{Fetch}
 use Rattle.gate_history.specs.History.{entry_count}
 use Rattle.gate_marks.specs.declared.mark.Mark.{Mark}
 use Rattle.gate_ledgers.specs.Accounts.{AccountView, with_marks}
@@ -28,7 +28,7 @@ abbrev pub Marks : AccountView → List Mark → AccountView → Type 0
 Marks a ms a2 = a2 ≡ record (with_marks a ms) { room = a2.room }
 
 -- an ask under the lock: the book's reply, the permit, the number of entries, and the marks
-pub record AsksRound (old : Gate) (asked : Asked) (a : AccountView) (m : ℕ) (result : Result Pass AskRefusal)
+pub record AsksRound (old : Gate) (asked : Fetch) (a : AccountView) (m : ℕ) (result : Result Pass AskRefusal)
     (new : Gate) (a2 : AccountView) : Type 0 where
   pub reply : Asks old asked.token asked.url m (number_in result) new
   pub permit : IfOk result (λ p. p ≡ record { number = p.number; token = asked.token; url = asked.url; desk = a.no })

@@ -1,6 +1,6 @@
-//! `Desk::ask` and `Desk::ask_in`: a permit for one fetch. Copies are made before the lock is taken.
+//! `Desk::ask` and `Desk::ask_in`: a permit for one fetch.
 //! RFC 9309, sections 2.2 and 2.3.1.
-ghost use Rattle.std.specs.Prelude.{◌≡◌, ◌+◌, ◌*◌, ◌^◌, ◌<◌, ◌≤◌, ℕ, Err, false, IfOk, length, List, OnErr};
+ghost use Rattle.std.specs.Prelude.{◌≡◌, ◌+◌, ◌*◌, ◌^◌, ◌<◌, ◌≤◌, ℕ, Err, false, IfOk, length, List, OnErr, OnOk};
 ghost use Rattle.gate_history.specs.History.{entry_count};
 ghost use Rattle.gate_core.specs.Gate.{history};
 ghost use Rattle.gate_core.specs.Replies.{Asks};
@@ -10,15 +10,15 @@ ghost use Rattle.gate_lock.specs.Results.{AsksRound, is_denial};
 ghost use Rattle.gate_lock.specs.Steps.{DeskAsks, Somewhere};
 
 use crate::desk::{Desk, make_room};
-use crate::desk_ask::DeskAsk;
 use crate::held::Held;
 use crate::linear_values::{Pass, Permit};
-use gate_core::{AskRefusal, Book};
+use gate_core::{AskRefusal, Book, Judged};
 use gate_ledgers::{Account, CountedBook, Gate};
 use path_normal::PageUrl;
+use permit_book::Fetch;
 use robots_text::Token;
 use robots_verdict::with_index;
-use std::alloc::Global;
+use std::alloc::AllocError;
 use std::sync::Wait;
 
 #[tactic(auto)]
@@ -43,47 +43,14 @@ impl<'a, G: Gate> Desk<'a, G> {
         // Room for `ask_in`; if memory is refused here, `ask_in` asks again.
         let promised = self.promised();
         let _ = make_room(&mut self.account, promised, 3);
-        match DeskAsk::new(token, url) {
-            Ok(ask) => self.ask_copied(rt, alloc, ask, moment),
-            Err(_) => Err(self.refuse_ask(rt, moment)),
-        }
-    }
-
-    // The refusal of an ask for whose texts there is no memory.
-    fn refuse_ask<R: Wait>(&mut self, rt: &R, moment: u64) -> AskRefusal
-        ensures step { (token url : List ℕ) → Somewhere self.old
-            (λ old new. DeskAsks self.old old token url moment (Err result) new self.new) }
-        ensures no { self.new.no ≡ self.old.no }
-        ensures kept { KeepsOut self.old self.new }
-    {
-        let held = self.lend(rt);
-        self.seen = held.guard.entry_count();
-        refused_ask(held.book(), moment)
-    }
-
-    // Asks for a permit, judged outside the lock if its verdict is slow.
-    fn ask_copied<R: Wait>(
-        &mut self,
-        rt: &R,
-        alloc: Global,
-        copied: DeskAsk,
-        moment: u64,
-    ) -> Result<Permit<G>, AskRefusal>
-        ensures step { Somewhere self.old (λ old new.
-            DeskAsks self.old old copied.token copied.url moment result new self.new) }
-        ensures no { self.new.no ≡ self.old.no }
-        ensures ok { IfOk result
-            (λ p. (p.desk ≡ self.old.no) × HasOut self.old self.new 1 0 0 0 0 0) }
-        ensures err { OnErr result (KeepsOut self.old self.new) }
-    {
         let policy = {
             let mut held = self.lend(rt);
-            match held.book().slow_hint(copied.authority(), moment) {
+            match held.book().slow_hint(url.authority(), moment) {
                 Some(policy) => policy,
-                None => return self.ask_in(&mut held, copied, moment),
+                None => return self.ask_in(&mut held, Judged::new(None, token, url), moment),
             }
         };
-        let judged = copied.judged_by(with_index(alloc, policy));
+        let judged = Judged::new(Some(with_index(alloc, policy)), token, url);
         let mut held = self.lend(rt);
         self.ask_in(&mut held, judged, moment)
     }
@@ -93,15 +60,16 @@ impl<'a, G: Gate> Desk<'a, G> {
     pub fn ask_in(
         &mut self,
         held: &mut Held<'_, G>,
-        ask: DeskAsk,
+        judged: Judged,
         moment: u64,
     ) -> Result<Permit<G>, AskRefusal>
         requires { self.old.seen ≤ entry_count (history held.old) }
-        ensures { DeskAsks self.old held.old ask.token ask.url moment result held.new self.new }
+        ensures { DeskAsks self.old held.old judged.token judged.url moment result held.new
+            self.new }
     {
         let promised = self.promised();
         let counted = &mut *held.guard;
-        let result = ask_round(counted, ask, moment, &mut self.account, promised);
+        let result = ask_round(counted, judged, moment, &mut self.account, promised);
         self.seen = counted.entry_count();
         match result {
             Ok(permit) => {
@@ -113,48 +81,76 @@ impl<'a, G: Gate> Desk<'a, G> {
     }
 }
 
-// The book's ask, if there is memory for the marks of its permit beside the promised ones.
+// What an ask's permit and its mark are for.
+#[derive(Drop)]
+struct Copies {
+    permit: Fetch,
+    mark: Fetch,
+}
+
+// The copies of an ask, with room for the marks of its permit beside the promised ones.
+fn copies_of<G: Gate>(
+    judged: &Judged,
+    account: &mut Account<G>,
+    promised: u64,
+) -> Result<Copies, AllocError>
+    requires { promised < 2 ^ 63 }
+    ensures copies { IfOk result (λ copies.
+        (copies.permit ≡ judged.now) × (copies.mark ≡ judged.now)) }
+    ensures same { account.new ≡ record account.old { room = account.new.room } }
+    ensures capacity { account.old.room ≤ account.new.room }
+    ensures room { OnOk result (length account.old.marks + promised + 3 ≤ account.new.room) }
+{
+    make_room(account, promised, 3)?;
+    Ok(Copies {
+        permit: judged.fetch().copy()?,
+        mark: judged.fetch().copy()?,
+    })
+}
+
+// The book's ask, if there is memory for its copies, and for the marks of its permit beside the promised
+// ones.
 fn ask_round<G: Gate>(
     counted: &mut CountedBook<G>,
-    prepared: DeskAsk,
+    judged: Judged,
     moment: u64,
     account: &mut Account<G>,
     promised: u64,
 ) -> Result<Permit<G>, AskRefusal>
     requires few { promised < 2 ^ 63 }
     requires fits { length account.old.marks + promised ≤ account.old.room }
-    ensures asked { AsksRound counted.old prepared account.old moment
+    ensures asked { AsksRound counted.old judged account.old moment
         result counted.new account.new }
     ensures room { length account.old.marks + promised + 3 * entries_of_ask result
         ≤ account.new.room }
 {
-    if make_room(account, promised, 3).is_err() {
-        // (let go in place, each of its parts would be a branch of the proof)
-        drop(prepared);
-        return Err(refused_ask(counted.book(), moment));
+    match copies_of(&judged, account, promised) {
+        Ok(copies) => ask_marked(counted, judged, copies, moment, account),
+        Err(_) => {
+            // (let go in place, each of its parts would be a branch of the proof)
+            drop(judged);
+            Err(refused_ask(counted.book(), moment))
+        }
     }
-    ask_marked(counted, prepared, moment, account)
 }
 
 // The book's ask and its permit. There is room for the mark.
 fn ask_marked<G: Gate>(
     counted: &mut CountedBook<G>,
-    asked: DeskAsk,
+    judged: Judged,
+    copies: Copies,
     moment: u64,
     account: &mut Account<G>,
 ) -> Result<Permit<G>, AskRefusal>
-    requires { length account.old.marks < account.old.room }
-    ensures asked { AsksRound counted.old asked account.old moment
+    requires copies { (copies.permit ≡ judged) × (copies.mark ≡ judged) }
+    requires room { length account.old.marks < account.old.room }
+    ensures asked { AsksRound counted.old judged account.old moment
         result counted.new account.new }
     ensures room { account.new.room ≡ account.old.room }
 {
-    let DeskAsk {
-        judged,
-        token,
-        url,
-        fetch,
-    } = asked;
-    match counted.ask(judged, fetch, moment, account) {
+    let Copies { permit, mark } = copies;
+    let Fetch { token, url } = permit;
+    match counted.ask(judged, mark, moment, account) {
         Ok((number, one)) => Ok(Pass {
             number,
             token,

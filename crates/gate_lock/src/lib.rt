@@ -6,7 +6,6 @@ mod ask;
 mod awaited;
 mod condense;
 mod desk;
-mod desk_ask;
 mod held;
 mod linear_values;
 mod lock;
@@ -17,7 +16,6 @@ mod spend;
 mod turns;
 
 pub use desk::Desk;
-pub use desk_ask::DeskAsk;
 pub use gate_ledgers::{Blanks, DesksFull, Gate, MAX_DESKS, Receipts};
 pub use gate_marks::{Mark, SealedMarks, marks_fit};
 pub use held::{AtRest, Held, vouch};

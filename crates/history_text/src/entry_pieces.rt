@@ -42,12 +42,12 @@ pub(crate) fn entry_pieces(version: Version, entry: &Entry) -> Pieces<'_>
             moment,
             number,
             fetch,
-        } => granted(*moment, *number, fetch.token(), fetch.url()),
+        } => granted(*moment, *number, fetch),
         Entry::AskDenied {
             moment,
             fetch,
             cause,
-        } => ask_denied(*moment, fetch.token(), fetch.url(), *cause),
+        } => ask_denied(*moment, fetch, *cause),
         Entry::Started {
             moment,
             number,
@@ -65,7 +65,7 @@ pub(crate) fn entry_pieces(version: Version, entry: &Entry) -> Pieces<'_>
 }
 
 /// The octets of a token.
-pub fn token_octets(token: &Token) -> &[u8]
+pub(crate) fn token_octets(token: &Token) -> &[u8]
     ensures value { result.now ≡ token.now }
     ensures own { token_of token.now ≡ Some token.now }
 {
@@ -73,7 +73,7 @@ pub fn token_octets(token: &Token) -> &[u8]
 }
 
 /// The octets of a URL.
-pub fn url_octets(url: &PageUrl) -> &[u8]
+pub(crate) fn url_octets(url: &PageUrl) -> &[u8]
     ensures value { result.now ≡ url.now }
     ensures page { IsPage url.now }
 {

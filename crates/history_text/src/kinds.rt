@@ -7,17 +7,18 @@ ghost use Rattle.gate_history.specs.declared.entry.Entry.TheVariants.{AskDenied,
 ghost use Rattle.gate_history.specs.declared.entry.Entry.TheVariants.{Finished, Granted, Returned};
 ghost use Rattle.gate_history.specs.declared.entry.Entry.TheVariants.{StartDenied, Started, Swept};
 ghost use Rattle.line_text.specs.Pieces.{piece_text, pieces_text};
-ghost use Rattle.history_text.specs.Entries.{IsCause, IsNumber, IsReason};
+ghost use Rattle.history_text.specs.Entries.{IsCause, IsFetch, IsNumber, IsReason};
 ghost use Rattle.history_text.specs.AnswerContent.{said_content};
 ghost use Rattle.history_text.specs.Spell.{answer_fields, body_word, closure_word};
 ghost use Rattle.history_text.specs.Spell.{entry_line, opening_word, spaced_fields};
 
+use crate::entry_pieces::{token_octets, url_octets};
 use crate::version::Version;
 use authority_cache::TurnNo;
 use gate_history::{Cause, Reason, Wording};
 use line_text::{Piece, Pieces};
 use path_normal::Authority;
-use permit_book::PermitNo;
+use permit_book::{Fetch, PermitNo};
 use robots_verdict::{Closure, Opening};
 
 const NONE: Piece<'static> = Piece::Text("");
@@ -75,10 +76,10 @@ pub fn arrived<'a>(
     ])
 }
 
-pub fn granted<'a>(moment: u64, number: PermitNo, token: &'a [u8], url: &'a [u8]) -> Pieces<'a>
-    ensures text { pieces_text result ≡ entry_line Version.Two
-        (Granted moment number (record { token = token.now; url = url.now })) }
+pub fn granted(moment: u64, number: PermitNo, fetch: &Fetch) -> Pieces<'_>
+    ensures text { pieces_text result ≡ entry_line Version.Two (Granted moment number fetch.now) }
     ensures number { IsNumber number }
+    ensures fetch { IsFetch fetch.now }
 {
     Pieces::of(&[
         Piece::Text("G "),
@@ -86,15 +87,16 @@ pub fn granted<'a>(moment: u64, number: PermitNo, token: &'a [u8], url: &'a [u8]
         SPACE,
         Piece::Number(number.number()),
         SPACE,
-        Piece::Octets(token),
+        Piece::Octets(token_octets(&fetch.token)),
         SPACE,
-        Piece::Octets(url),
+        Piece::Octets(url_octets(&fetch.url)),
     ])
 }
 
-pub fn ask_denied<'a>(moment: u64, token: &'a [u8], url: &'a [u8], cause: Cause) -> Pieces<'a>
+pub fn ask_denied(moment: u64, fetch: &Fetch, cause: Cause) -> Pieces<'_>
     ensures text { pieces_text result ≡ entry_line Version.Two
-        (AskDenied moment (record { token = token.now; url = url.now }) cause) }
+        (AskDenied moment fetch.now cause) }
+    ensures fetch { IsFetch fetch.now }
     ensures cause { IsCause cause }
 {
     let cause = wording_pieces(cause.wording());
@@ -102,9 +104,9 @@ pub fn ask_denied<'a>(moment: u64, token: &'a [u8], url: &'a [u8], cause: Cause)
         Piece::Text("N "),
         Piece::Number(moment),
         SPACE,
-        Piece::Octets(token),
+        Piece::Octets(token_octets(&fetch.token)),
         SPACE,
-        Piece::Octets(url),
+        Piece::Octets(url_octets(&fetch.url)),
         cause.0,
         cause.1,
         cause.2,

@@ -22,7 +22,7 @@ pub fn exchange<S: Source, W: Sink>(
     reader: &mut S,
     writer: &mut W,
     url: &PageUrl,
-    agent: &[u8],
+    agent: &str,
     limit: usize,
 ) -> Result<HttpReply, WireFault>
     // No octet of the agent ends its line.
@@ -42,7 +42,7 @@ pub fn exchange_behind<S: Source, W: Sink>(
     writer: &mut W,
     header: &[u8],
     url: &PageUrl,
-    agent: &[u8],
+    agent: &str,
     limit: usize,
 ) -> Result<HttpReply, WireFault>
     requires { IsAgent agent.now }
@@ -61,7 +61,7 @@ fn write_behind<W: Sink>(
     writer: &mut W,
     header: &[u8],
     url: &PageUrl,
-    agent: &[u8],
+    agent: &str,
 ) -> Result<(), WireFault>
     requires { IsAgent agent.now }
     ensures ok { OnOk result (Appends (W.written writer.old) (W.written writer.new)

@@ -41,7 +41,7 @@ pub struct TcpClient<R: Net<Stream = TcpStream> + time::Clock> {
 #[derive(Clone, Copy)]
 struct Asked<'a> {
     url: &'a PageUrl,
-    agent: &'a [u8],
+    agent: &'a str,
     limit: usize,
     deadline: Deadline,
 }
@@ -142,7 +142,7 @@ impl<R: Net<Stream = TcpStream> + time::Clock> TcpClient<R> {
         &self,
         alloc: Global,
         url: &PageUrl,
-        agent: &[u8],
+        agent: &str,
         limit: usize,
         failure: &mut Option<Failure>,
     ) -> Result<HttpReply, WireFault>
@@ -161,7 +161,7 @@ impl<R: Net<Stream = TcpStream> + time::Clock> TcpClient<R> {
         &self,
         alloc: Global,
         url: &PageUrl,
-        agent: &[u8],
+        agent: &str,
         limit: usize,
         deadline: Deadline,
         failure: &mut Option<Failure>,

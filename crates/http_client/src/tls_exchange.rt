@@ -23,7 +23,7 @@ pub(crate) fn exchange_through<S: Read, W: Sink, U: Unseen>(
     writer: &mut W,
     header: &[u8],
     url: &PageUrl,
-    agent: &[u8],
+    agent: &str,
     limit: usize,
 ) -> (Result<HttpReply, WireFault>, Heard<S, U>)
     requires { IsAgent agent.now }

@@ -31,10 +31,10 @@ before_authority = codes " HTTP/1.1" ++ (crlf_bytes ++ codes "Host: ")
 abbrev pub before_agent : List ℕ
 before_agent = crlf_bytes ++ codes "User-Agent: "
 
-pub request_joined : (target authority agent t a : List ℕ) → t ≡ target → a ≡ authority
-    → codes "GET " ++ (t ++ (before_authority ++ (a ++ (before_agent ++ (agent ++ (after_agent ++ []))))))
+pub request_joined : (target authority agent t a g : List ℕ) → t ≡ target → a ≡ authority → g ≡ agent
+    → codes "GET " ++ (t ++ (before_authority ++ (a ++ (before_agent ++ (g ++ (after_agent ++ []))))))
     ≡ request target authority agent
-request_joined target authority agent t a is_target is_authority =
+request_joined target authority agent t a g is_target is_authority is_agent =
     let agent_line = field_line (codes "User-Agent") agent ++ last_lines in
     let host_line = field_line (codes "Host") authority ++ agent_line in
     let behind_agent : agent_line ≡ codes "User-Agent: " ++ (agent ++ after_agent) = ap (λ s. codes "User-Agent: " ++ s) (append_assoc agent crlf_bytes last_lines) in
@@ -42,7 +42,7 @@ request_joined target authority agent t a is_target is_authority =
     let behind_target : request target authority agent ≡ codes "GET " ++ (target ++ (before_authority ++ (authority ++ (crlf_bytes ++ agent_line)))) = ap (λ s. codes "GET " ++ s) (append_assoc target (codes " HTTP/1.1" ++ crlf_bytes) host_line)
     ∙ ap (λ s. codes "GET " ++ (target ++ (codes " HTTP/1.1" ++ (crlf_bytes ++ s)))) behind_authority in
     let whole : request target authority agent ≡ codes "GET " ++ (target ++ (before_authority ++ (authority ++ (before_agent ++ (agent ++ after_agent))))) = behind_target ∙ ap (λ s. codes "GET " ++ (target ++ (before_authority ++ (authority ++ (crlf_bytes ++ s))))) behind_agent in
-    (λ i. codes "GET " ++ (is_target i ++ (before_authority ++ (is_authority i ++ (before_agent ++ (agent ++ after_agent)))))) ∙ sym whole
+    (λ i. codes "GET " ++ (is_target i ++ (before_authority ++ (is_authority i ++ (before_agent ++ (is_agent i ++ after_agent)))))) ∙ sym whole
 
 -- ---- a write that fails
 

@@ -16,7 +16,7 @@ const REQUEST_ROOM: usize = 8_192;
 
 /// Writes a GET request for the page, after which the connection closes. `agent` is the value of
 /// User-Agent. Up to 8,192 octets are one write, if the device takes it whole. Takes no memory.
-pub fn write_get<W: Sink>(writer: &mut W, url: &PageUrl, agent: &[u8]) -> Result<(), WireFault>
+pub fn write_get<W: Sink>(writer: &mut W, url: &PageUrl, agent: &str) -> Result<(), WireFault>
     // No octet of the agent ends its line.
     requires { All (λ octet. (32 ≤ octet) × (octet ≤ 126)) agent.now }
     ensures ok { OnOk result (Appends (W.written writer.old) (W.written writer.new)
@@ -32,7 +32,7 @@ pub fn write_get<W: Sink>(writer: &mut W, url: &PageUrl, agent: &[u8]) -> Result
         b" HTTP/1.1\r\nHost: ",
         url.host().as_bytes(),
         b"\r\nUser-Agent: ",
-        agent,
+        agent.as_bytes(),
         b"\r\nAccept: */*\r\nAccept-Encoding: identity\r\nConnection: close\r\n\r\n",
     ];
     write_gathered(writer, &pieces)

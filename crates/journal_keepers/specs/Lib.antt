@@ -1,5 +1,3 @@
 -- The definitions for contracts, one concept a file.
 -- `crates/journal_keepers/src` has the code.
 pub mod Fetching
-pub mod Parts
-pub mod Rooms

@@ -7,7 +7,7 @@ use counted_io::DeviceFault;
 use fetchers::{Fetcher, PageLeave, RobotsLeave};
 use http_client::{Deadline, Failure};
 use http_wire::{HttpReply, WireFault};
-use journal_tape::ComesUp;
+use journal::ComesUp;
 use path_normal::Schemes;
 
 // The number of each call: there is no place here to keep the result of one for another.

@@ -3,8 +3,10 @@
 #![tactic(auto)]
 
 mod fetches_behind;
-mod keeper_sealer;
-mod recorded_keeper;
+mod journal_records;
+mod lent_desk;
+mod looks;
 
 pub use crate::fetches_behind::FetchesBehind;
-pub use crate::recorded_keeper::RecordedKeeper;
+pub use crate::journal_records::JournalRecords;
+pub use crate::looks::Looks;

@@ -62,7 +62,7 @@ RefusesRefresh d b left told left2 d2 b2 = (told ≡ Some (Err begin.LogFull)) �
 
 -- a refused fetch: one hop that says why nothing was fetched
 pub record IsRefused (refusal : Refusal) (outcome : Outcome) : Type 0 where
-  pub hops_are : outcome.hops.items ≡ hops.Refused refusal ∷ []
+  pub hops_are : outcome.hops.items ≡ hops.Err refusal ∷ []
   pub body_is : outcome.body.items ≡ []
 
 -- the refused outcome, given memory for its hop

@@ -3,4 +3,5 @@ pub mod Deals
 pub mod BookKeeping
 pub mod DeskKeeping
 pub mod Bounding
+pub mod Rooms
 pub mod Counting

@@ -4,7 +4,6 @@ ghost use Rattle.std.specs.Prelude.{◌≡◌};
 use crate::answers::standing_answer;
 use crate::counts::{Counts, counts_of};
 use crate::keeper::Keeper;
-use crate::visits::Visitors;
 use authority_cache::StandingAnswer;
 use crawl_job::{Job, Outcome};
 use gate_core::{AskRefusal, BeginRefusal, Book, Denial, NoMemory, Standing, Started, State};
@@ -103,10 +102,6 @@ impl<'a> Keeper for BookKeeper<'a> {
 
     fn counts(&self) -> Counts {
         counts_of(self.book)
-    }
-
-    fn visitors(&self) -> Visitors {
-        Visitors::none()
     }
 
     fn answer(

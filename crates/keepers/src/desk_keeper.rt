@@ -1,4 +1,4 @@
-//! `DeskKeeper`: a desk of a gate, a bag of what the session has out, and a fetcher.
+//! `DeskKeeper`: a desk of a gate, a bag of what the session has out, a fetcher, and the gate's records.
 //! RFC 9309, sections 2.2 to 2.4.
 ghost use Rattle.std.specs.Prelude.{◌≡◌, ◌≤◌, [], IfOk, Some};
 ghost use Rattle.permit_bag.specs.Bags.{held_in};
@@ -12,13 +12,14 @@ use crate::bounds::Bounds;
 use crate::counts::{Counts, counts_of};
 use crate::fetch_refusal::refused_fetch;
 use crate::keeper::Keeper;
-use crate::visits::Visitors;
+use crate::no_keeper::NoKeeper;
+use crate::records::{DeskRecords, NoRecords};
 use authority_cache::StandingAnswer;
 use crawl_job::{Job, Outcome, Refusal};
 use fetchers::Fetcher;
 use gate_core::{AskRefusal, BeginRefusal, Denial, NoMemory, Standing, State};
 use gate_history::{Reason, Segment};
-use gate_lock::{Desk, DesksFull, Gate, GateLock, Receipts};
+use gate_lock::{Desk, Gate, GateLock, Receipts};
 use page_worker::{Clock, is_unknown, refresh_within, work_within};
 use path_normal::{Authority, PageUrl, Schemes};
 use permit_bag::Bag;
@@ -30,9 +31,10 @@ use std::sync::Wait;
 /// A desk with the permits and started fetches of one session after the other. Each session can spend only
 /// its own. It has no `Drop`: `close` makes receipts of it.
 #[must_use]
-pub struct DeskKeeper<'a, 'g, G: Gate, F: Fetcher, R: Wait> {
+pub struct DeskKeeper<'a, 'g, G: Gate, F: Fetcher, R: Wait, N: DeskRecords + Drop> {
     rt: &'a R,
     fetcher: &'a F,
+    records: N,
     bounds: Bounds,
     // How many more authorities the session may make known.
     newcomers: u64,
@@ -44,53 +46,37 @@ pub struct DeskKeeper<'a, 'g, G: Gate, F: Fetcher, R: Wait> {
     ghost balances: { out_of desk ≡ held_in bag },
 }
 
-/// Why a gate has no further keeper.
-#[derive(Clone, Copy, Debug, PartialEq, Eq)]
-pub enum NoKeeper {
-    /// The most desks are open.
-    DesksFull,
-    /// Out of memory.
-    NoMemory,
-}
-
-impl From<DesksFull> for NoKeeper {
-    ghost use Rattle.std.specs.Prelude.{◌≡◌};
-    ghost use Rattle.keepers.specs.declared.desk_keeper.NoKeeper.TheVariants as refusals;
-
-    ghost from_gives = { λ _ told. told ≡ refusals.DesksFull };
-
-    fn from(_: DesksFull) -> NoKeeper {
-        NoKeeper::DesksFull
-    }
-}
-
-impl<'a, 'g, G: Gate, F: Fetcher, R: Wait> DeskKeeper<'a, 'g, G, F, R> {
-    /// A keeper at its own desk, with no bounds but the gate's.
+impl<'a, 'g, G: Gate, F: Fetcher, R: Wait> DeskKeeper<'a, 'g, G, F, R, NoRecords> {
+    /// A keeper at its own desk, with no bounds but the gate's, and no records.
     pub fn open(
         rt: &'a R,
         alloc: Global,
         gate: &'g GateLock<G>,
         fetcher: &'a F,
-    ) -> Result<DeskKeeper<'a, 'g, G, F, R>, NoKeeper>
+    ) -> Result<DeskKeeper<'a, 'g, G, F, R, NoRecords>, NoKeeper>
         ensures desk { IfOk result (λ keeper. IsNew gate.now keeper.desk) }
         ensures bag { IfOk result (λ keeper. (keeper.bag.permits ≡ []) × (keeper.bag.runs ≡ [])) }
         ensures fetcher { IfOk result (λ keeper. keeper.fetcher ≡ fetcher.entry) }
         ensures bounds { IfOk result (λ keeper. are_all keeper.bounds) }
     {
-        DeskKeeper::open_within(rt, alloc, gate, fetcher, Bounds::none())
+        DeskKeeper::open_within(rt, alloc, gate, fetcher, NoRecords, Bounds::none())
     }
+}
 
-    /// A keeper at its own desk, with bounds for each session.
+impl<'a, 'g, G: Gate, F: Fetcher, R: Wait, N: DeskRecords + Drop> DeskKeeper<'a, 'g, G, F, R, N> {
+    /// A keeper at its own desk beside these records, with bounds for each session.
     pub fn open_within(
         rt: &'a R,
         alloc: Global,
         gate: &'g GateLock<G>,
         fetcher: &'a F,
+        records: N,
         bounds: Bounds,
-    ) -> Result<DeskKeeper<'a, 'g, G, F, R>, NoKeeper>
+    ) -> Result<DeskKeeper<'a, 'g, G, F, R, N>, NoKeeper>
         ensures desk { IfOk result (λ keeper. IsNew gate.now keeper.desk) }
         ensures bag { IfOk result (λ keeper. (keeper.bag.permits ≡ []) × (keeper.bag.runs ≡ [])) }
         ensures fetcher { IfOk result (λ keeper. keeper.fetcher ≡ fetcher.entry) }
+        ensures records { IfOk result (λ keeper. keeper.records ≡ records) }
         ensures bounds { IfOk result (λ keeper. (keeper.bounds ≡ bounds)
             × (keeper.newcomers ≡ bounds.authorities) × (keeper.begun ≡ 0)) }
     {
@@ -99,6 +85,7 @@ impl<'a, 'g, G: Gate, F: Fetcher, R: Wait> DeskKeeper<'a, 'g, G, F, R> {
             Ok(bag) => Ok(DeskKeeper {
                 rt,
                 fetcher,
+                records,
                 bounds,
                 newcomers: bounds.authorities,
                 begun: 0,
@@ -115,10 +102,9 @@ impl<'a, 'g, G: Gate, F: Fetcher, R: Wait> DeskKeeper<'a, 'g, G, F, R> {
 
     // Condenses the desk's marks if there is no room for the next ones.
     fn make_way(&mut self)
-        ensures fetcher { self.new.fetcher ≡ self.old.fetcher }
-        ensures bounds { self.new.bounds ≡ self.old.bounds }
+        ensures rest { (self.new.fetcher ≡ self.old.fetcher) × (self.new.records ≡ self.old.records)
+            × (self.new.bounds ≡ self.old.bounds) × (self.new.begun ≡ self.old.begun) }
         ensures newcomers { self.new.newcomers ≡ self.old.newcomers }
-        ensures begun { self.new.begun ≡ self.old.begun }
         ensures bag { self.new.bag ≡ self.old.bag }
         ensures desk { MayCondense self.old.desk self.new.desk }
     {
@@ -128,10 +114,9 @@ impl<'a, 'g, G: Gate, F: Fetcher, R: Wait> DeskKeeper<'a, 'g, G, F, R> {
     }
 
     fn ask_desk(&mut self, token: Token, url: PageUrl, moment: u64) -> Result<PermitNo, AskRefusal>
-        ensures fetcher { self.new.fetcher ≡ self.old.fetcher }
-        ensures bounds { self.new.bounds ≡ self.old.bounds }
+        ensures rest { (self.new.fetcher ≡ self.old.fetcher) × (self.new.records ≡ self.old.records)
+            × (self.new.bounds ≡ self.old.bounds) × (self.new.begun ≡ self.old.begun) }
         ensures newcomers { self.new.newcomers ≡ self.old.newcomers }
-        ensures begun { self.new.begun ≡ self.old.begun }
         ensures asks { Behind self.old.desk (λ d. KeeperAsks d self.old.bag token url moment result
             self.new.desk self.new.bag) }
     {
@@ -156,9 +141,8 @@ impl<'a, 'g, G: Gate, F: Fetcher, R: Wait> DeskKeeper<'a, 'g, G, F, R> {
         authority: &Authority,
         clock: &C,
     ) -> Result<Standing, BeginRefusal>
-        ensures fetcher { self.new.fetcher ≡ self.old.fetcher }
-        ensures bounds { self.new.bounds ≡ self.old.bounds }
-        ensures begun { self.new.begun ≡ self.old.begun }
+        ensures rest { (self.new.fetcher ≡ self.old.fetcher) × (self.new.records ≡ self.old.records)
+            × (self.new.bounds ≡ self.old.bounds) × (self.new.begun ≡ self.old.begun) }
         ensures refreshes { Behind self.old.desk (λ d. KeeperRefreshes
             (world_of (F.gives self.old.fetcher.now) (F.follows self.old.fetcher.now) (C.reads clock.now))
             d self.old.bag authority.now self.old.newcomers
@@ -183,9 +167,8 @@ impl<'a, 'g, G: Gate, F: Fetcher, R: Wait> DeskKeeper<'a, 'g, G, F, R> {
         job: Job,
         clock: &C,
     ) -> Result<Outcome, NoMemory>
-        ensures fetcher { self.new.fetcher ≡ self.old.fetcher }
-        ensures bounds { self.new.bounds ≡ self.old.bounds }
-        ensures begun { self.new.begun ≡ self.old.begun }
+        ensures rest { (self.new.fetcher ≡ self.old.fetcher) × (self.new.records ≡ self.old.records)
+            × (self.new.bounds ≡ self.old.bounds) × (self.new.begun ≡ self.old.begun) }
         ensures newcomers { self.new.newcomers ≤ self.old.newcomers }
         ensures fetches { Behind self.old.desk (λ d. KeeperFetches
             (world_of (F.gives self.old.fetcher.now) (F.follows self.old.fetcher.now) (C.reads clock.now))
@@ -223,6 +206,7 @@ impl<'a, 'g, G: Gate, F: Fetcher, R: Wait> DeskKeeper<'a, 'g, G, F, R> {
         let DeskKeeper {
             rt,
             fetcher: _,
+            records: _,
             bounds: _,
             newcomers: _,
             begun: _,
@@ -234,7 +218,8 @@ impl<'a, 'g, G: Gate, F: Fetcher, R: Wait> DeskKeeper<'a, 'g, G, F, R> {
     }
 }
 
-impl<'a, 'g, G: Gate, F: Fetcher, R: Wait> Keeper for DeskKeeper<'a, 'g, G, F, R> {
+impl<'a, 'g, G: Gate, F: Fetcher, R: Wait, N: DeskRecords + Drop> Keeper
+    for DeskKeeper<'a, 'g, G, F, R, N> {
     ghost use Rattle.std.specs.Prelude.{◌≡◌, ◌≤◌, true};
     ghost use Rattle.permit_bag.specs.Bags.{BagFinishes, BagReturns, BagStarts, IsUrlIn};
     ghost use Rattle.page_worker.specs.World.{world_of};
@@ -242,54 +227,65 @@ impl<'a, 'g, G: Gate, F: Fetcher, R: Wait> Keeper for DeskKeeper<'a, 'g, G, F, R
     ghost use Rattle.keepers.specs.Bounding.{Bounded, BoundedFetch, RefusesAsk, RefusesFetch, RefusesRefresh, has_enough, made_since};
     ghost use Rattle.gate_core.specs.declared.refusal.AskRefusal.TheVariants as asks;
     ghost use Rattle.crawl_job.specs.declared.hop.Refusal.TheVariants as hops;
+    ghost use Rattle.keepers.specs.Rooms.{InRoom, RefusesSeal};
     ghost use Rattle.keepers.specs.Counting.{AnswersSome, CountsSome};
     ghost use Rattle.keepers.specs.DeskKeeping.{Behind, KeeperAsks, KeeperEnds, KeeperFetches, KeeperReads, KeeperRefreshes, KeeperSeals};
 
     ghost deals = { record {
       can_fetch = λ _. true;
       schemes = λ k. F.follows k.fetcher.now;
-      asks = λ k token url m result k2. ((k2.fetcher ≡ k.fetcher) × (k2.bounds ≡ k.bounds)
-          × (k2.newcomers ≡ k.newcomers) × (k2.begun ≡ k.begun))
-          × Bounded (has_enough k.bounds.entries (made_since k.begun k.desk))
+      asks = λ k token url m result k2. ((k2.fetcher ≡ k.fetcher) × (k2.records ≡ k.records)
+          × (k2.bounds ≡ k.bounds) × (k2.begun ≡ k.begun) × (k2.newcomers ≡ k.newcomers))
+          × InRoom (N.rooms k.records)
+          (RefusesAsk asks.LogFull k.desk k.bag result k2.desk k2.bag)
+          (Bounded (has_enough k.bounds.entries (made_since k.begun k.desk))
           (RefusesAsk asks.LogFull k.desk k.bag result k2.desk k2.bag)
           (Bounded (has_enough k.bounds.permits (out_of k.desk))
           (RefusesAsk asks.PermitsFull k.desk k.bag result k2.desk k2.bag)
-          (Behind k.desk (λ d. KeeperAsks d k.bag token url m result k2.desk k2.bag)));
-      starts = λ k number token url m result k2. ((k2.fetcher ≡ k.fetcher) × (k2.bounds ≡ k.bounds)
-          × (k2.newcomers ≡ k.newcomers) × (k2.begun ≡ k.begun))
+          (Behind k.desk (λ d. KeeperAsks d k.bag token url m result k2.desk k2.bag))));
+      starts = λ k number token url m result k2. ((k2.fetcher ≡ k.fetcher) × (k2.records ≡ k.records)
+          × (k2.bounds ≡ k.bounds) × (k2.begun ≡ k.begun) × (k2.newcomers ≡ k.newcomers))
           × BagStarts k.bag k.desk number token url m result k2.bag k2.desk;
       urls = λ k number url. IsUrlIn k.bag number url;
-      returns = λ k number result k2. ((k2.fetcher ≡ k.fetcher) × (k2.bounds ≡ k.bounds)
-          × (k2.newcomers ≡ k.newcomers) × (k2.begun ≡ k.begun))
+      returns = λ k number result k2. ((k2.fetcher ≡ k.fetcher) × (k2.records ≡ k.records)
+          × (k2.bounds ≡ k.bounds) × (k2.begun ≡ k.begun) × (k2.newcomers ≡ k.newcomers))
           × BagReturns k.bag k.desk number result k2.bag k2.desk;
-      finishes = λ k number result k2. ((k2.fetcher ≡ k.fetcher) × (k2.bounds ≡ k.bounds)
-          × (k2.newcomers ≡ k.newcomers) × (k2.begun ≡ k.begun))
+      finishes = λ k number result k2. ((k2.fetcher ≡ k.fetcher) × (k2.records ≡ k.records)
+          × (k2.bounds ≡ k.bounds) × (k2.begun ≡ k.begun) × (k2.newcomers ≡ k.newcomers))
           × BagFinishes k.bag k.desk number result k2.bag k2.desk;
       counts = λ k counts. CountsSome k.desk counts;
       answers = λ k authority result. AnswersSome k.desk authority result;
-      reads = λ k authority m state k2. ((k2.fetcher ≡ k.fetcher) × (k2.bounds ≡ k.bounds)
-          × (k2.newcomers ≡ k.newcomers) × (k2.begun ≡ k.begun))
+      reads = λ k authority m state k2. ((k2.fetcher ≡ k.fetcher) × (k2.records ≡ k.records)
+          × (k2.bounds ≡ k.bounds) × (k2.begun ≡ k.begun) × (k2.newcomers ≡ k.newcomers))
           × KeeperReads k.desk k.bag authority m state k2.desk k2.bag;
-      refreshes = λ reads k authority told k2. ((k2.fetcher ≡ k.fetcher) × (k2.bounds ≡ k.bounds)
-          × (k2.begun ≡ k.begun))
-          × Bounded (has_enough k.bounds.entries (made_since k.begun k.desk))
+      refreshes = λ reads k authority told k2. ((k2.fetcher ≡ k.fetcher) × (k2.records ≡ k.records)
+          × (k2.bounds ≡ k.bounds) × (k2.begun ≡ k.begun))
+          × InRoom (N.rooms k.records)
+          (RefusesRefresh k.desk k.bag k.newcomers told k2.newcomers k2.desk k2.bag)
+          (Bounded (has_enough k.bounds.entries (made_since k.begun k.desk))
           (RefusesRefresh k.desk k.bag k.newcomers told k2.newcomers k2.desk k2.bag)
           (Behind k.desk (λ d. KeeperRefreshes
           (world_of (F.gives k.fetcher.now) (F.follows k.fetcher.now) reads)
-          d k.bag authority k.newcomers told k2.newcomers k2.desk k2.bag));
-      fetches = λ reads k job told k2. ((k2.fetcher ≡ k.fetcher) × (k2.bounds ≡ k.bounds)
-          × (k2.begun ≡ k.begun) × (k2.newcomers ≤ k.newcomers))
-          × Bounded (has_enough k.bounds.entries (made_since k.begun k.desk))
+          d k.bag authority k.newcomers told k2.newcomers k2.desk k2.bag)));
+      fetches = λ reads k job told k2. ((k2.fetcher ≡ k.fetcher) × (k2.records ≡ k.records)
+          × (k2.bounds ≡ k.bounds) × (k2.begun ≡ k.begun) × (k2.newcomers ≤ k.newcomers))
+          × InRoom (N.rooms k.records)
+          ((k2.newcomers ≡ k.newcomers)
+          × RefusesFetch hops.LogFull k.desk k.bag told k2.desk k2.bag)
+          (Bounded (has_enough k.bounds.entries (made_since k.begun k.desk))
           (RefusesFetch hops.LogFull k.desk k.bag told k2.desk k2.bag)
           (BoundedFetch k.newcomers k.desk job
           (λ d. RefusesFetch hops.AuthoritiesFull d k.bag told k2.desk k2.bag)
           (λ d. Behind d (λ d1. KeeperFetches
           (world_of (F.gives k.fetcher.now) (F.follows k.fetcher.now) reads)
-          d1 k.bag job told k2.desk k2.bag)));
-      seals = λ k result k2. ((k2.fetcher ≡ k.fetcher) × (k2.bounds ≡ k.bounds)
-          × (k2.newcomers ≡ k.newcomers) × (k2.begun ≡ k.begun))
-          × KeeperSeals k.desk k.bag result k2.desk k2.bag;
-      ends = λ k k2. ((k2.fetcher ≡ k.fetcher) × (k2.bounds ≡ k.bounds)
+          d1 k.bag job told k2.desk k2.bag))));
+      seals = λ k result k2. ((k2.fetcher ≡ k.fetcher) × (k2.records ≡ k.records)
+          × (k2.bounds ≡ k.bounds) × (k2.begun ≡ k.begun) × (k2.newcomers ≡ k.newcomers))
+          × InRoom (N.rooms k.records) (RefusesSeal k.desk k.bag result k2.desk k2.bag)
+          (N.seals k.records k.desk result k2.desk
+          × KeeperSeals k.desk k.bag result k2.desk k2.bag);
+      ends = λ k k2. ((k2.fetcher ≡ k.fetcher)
+          × (k2.records ≡ k.records) × (k2.bounds ≡ k.bounds)
           × (k2.newcomers ≡ k.bounds.authorities) × (made_since k2.begun k2.desk ≡ 0))
           × KeeperEnds k.desk k.bag k2.desk k2.bag;
     } };
@@ -303,7 +299,7 @@ impl<'a, 'g, G: Gate, F: Fetcher, R: Wait> Keeper for DeskKeeper<'a, 'g, G, F, R
     }
 
     fn ask(&mut self, token: Token, url: PageUrl, moment: u64) -> Result<PermitNo, AskRefusal> {
-        if self.has_entries() {
+        if !self.records.has_room() || self.has_entries() {
             return Err(AskRefusal::LogFull);
         }
         if self.bounds.has_permits(self.desk.out()) {
@@ -339,10 +335,6 @@ impl<'a, 'g, G: Gate, F: Fetcher, R: Wait> Keeper for DeskKeeper<'a, 'g, G, F, R
         counts_of(self.desk.lend(self.rt).book())
     }
 
-    fn visitors(&self) -> Visitors {
-        Visitors::none()
-    }
-
     fn answer(
         &self,
         alloc: Global,
@@ -361,7 +353,7 @@ impl<'a, 'g, G: Gate, F: Fetcher, R: Wait> Keeper for DeskKeeper<'a, 'g, G, F, R
         authority: &Authority,
         clock: &C,
     ) -> Option<Result<Standing, BeginRefusal>> {
-        if self.has_entries() {
+        if !self.records.has_room() || self.has_entries() {
             return Some(Err(BeginRefusal::LogFull));
         }
         Some(self.refresh_desk(alloc, authority, clock))
@@ -373,7 +365,7 @@ impl<'a, 'g, G: Gate, F: Fetcher, R: Wait> Keeper for DeskKeeper<'a, 'g, G, F, R
         job: Job,
         clock: &C,
     ) -> Option<Result<Outcome, NoMemory>> {
-        if self.has_entries() {
+        if !self.records.has_room() || self.has_entries() {
             return Some(refused_fetch(alloc, Refusal::LogFull));
         }
         if self.newcomers == 0 && is_unknown(self.rt, &mut self.desk, job.url.authority()) {
@@ -382,8 +374,12 @@ impl<'a, 'g, G: Gate, F: Fetcher, R: Wait> Keeper for DeskKeeper<'a, 'g, G, F, R
         Some(self.fetch_desk(alloc, job, clock))
     }
 
+    /// The records seal at the desk, if they have room.
     fn seal(&mut self) -> Result<Segment, NoMemory> {
-        self.desk.seal(self.rt)
+        if !self.records.has_room() {
+            return Err(NoMemory);
+        }
+        self.records.seal(self.rt, &mut self.desk)
     }
 
     fn end(&mut self) {

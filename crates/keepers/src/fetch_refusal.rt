@@ -8,11 +8,11 @@ use gate_core::NoMemory;
 use std::alloc::Global;
 
 /// The outcome of a fetch that is refused: one hop, which says why.
-pub fn refused_fetch(alloc: Global, refusal: Refusal) -> Result<Outcome, NoMemory>
+pub(crate) fn refused_fetch(alloc: Global, refusal: Refusal) -> Result<Outcome, NoMemory>
     ensures { TellsRefused refusal (Some result) }
 {
     let mut hops = Vec::new(alloc);
-    if hops.push(Hop::Refused(refusal)).is_err() {
+    if hops.push(Hop::Err(refusal)).is_err() {
         return Err(NoMemory);
     }
     Ok(Outcome {

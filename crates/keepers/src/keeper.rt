@@ -3,7 +3,6 @@ ghost use Rattle.std.specs.Prelude.{◌≡◌};
 ghost use Rattle.std.specs.Option.{option_copied};
 
 use crate::counts::Counts;
-use crate::visits::Visitors;
 use authority_cache::StandingAnswer;
 use crawl_job::{Job, Outcome};
 use gate_core::{AskRefusal, BeginRefusal, Denial, NoMemory, Standing, State};
@@ -58,9 +57,6 @@ pub trait Keeper {
     /// How much the gate keeps.
     fn counts(&self) -> Counts
         ensures { deals.counts self.now result };
-
-    /// The connections of the server, if the session has one.
-    fn visitors(&self) -> Visitors;
 
     /// The answer for an authority, of any age. Allocates its name, not its text.
     fn answer(

@@ -1,6 +1,6 @@
 -- A server without a keeper.
-use Rattle.keepers.specs.declared.desk_keeper.NoKeeper.{NoKeeper}
-use Rattle.keepers.specs.declared.desk_keeper.NoKeeper.TheVariants as refusals
+use Rattle.keepers.specs.declared.no_keeper.NoKeeper.{NoKeeper}
+use Rattle.keepers.specs.declared.no_keeper.NoKeeper.TheVariants as refusals
 use Rattle.line_server.specs.declared.fault.ServeFault.{ServeFault}
 use Rattle.line_server.specs.declared.fault.ServeFault.TheVariants as faults
 

@@ -5,20 +5,21 @@ use crate::recorded::Recorded;
 use counted_io::DeviceFault;
 use gate_journal::DeskSealer;
 use gate_lock::{DesksFull, Gate, Receipts};
-use journal_files::Recorder;
+use journal::Recorder;
+use journal_keepers::Looks;
 use std::alloc::Global;
 use std::sync::Wait;
 
 // After this many looks, recorded entries are synced, if that happens once a second.
 const SYNC_LOOKS: u64 = 10;
 
-/// The recording, the desk that seals, and the number of looks. It has no `Drop`: `close` makes its
+/// The recording, the desk that seals, and the looks. It has no `Drop`: `close` makes its
 /// receipts.
 #[must_use]
 pub(crate) struct Clerk<'a, 'g, G: Gate, J: Recorder, R: Wait> {
     recorded: &'g Recorded<'a, G, J, R>,
     sealer: DeskSealer<'a, 'a, G, R>,
-    looks: u64,
+    looks: Looks,
 }
 
 impl<'a, 'g, G: Gate, J: Recorder, R: Wait> Clerk<'a, 'g, G, J, R> {
@@ -31,7 +32,7 @@ impl<'a, 'g, G: Gate, J: Recorder, R: Wait> Clerk<'a, 'g, G, J, R> {
         Ok(Clerk {
             recorded,
             sealer,
-            looks: 0,
+            looks: Looks::new(SYNC_LOOKS),
         })
     }
 
@@ -42,12 +43,7 @@ impl<'a, 'g, G: Gate, J: Recorder, R: Wait> Clerk<'a, 'g, G, J, R> {
             journal,
             ..
         } = self.recorded;
-        self.looks = self.looks.wrapping_add(1);
-        if self.looks % SYNC_LOOKS == 0 {
-            journal.see_to(chronicle.rt, chronicle)?;
-        } else {
-            journal.come_up(chronicle.rt, chronicle)?;
-        }
+        self.looks.look(chronicle.rt, chronicle, *journal, false)?;
         if journal.is_due(chronicle.rt, chronicle) {
             // If memory ran out, the next try finds it too; a fault of the journal ends each session.
             let _ = journal.seal(chronicle.rt, chronicle, &mut self.sealer);

@@ -10,10 +10,8 @@ use command_server::{FirstLine, NumberedClock, serve_overseer};
 use counted_io::{Counted, DeviceFault};
 use fetchers::Fetcher;
 use gate_lock::{Gate, Receipts};
-use journal_files::Recorder;
-use journal_keepers::{FetchesBehind, RecordedKeeper};
-use journal_tape::Behind;
-use keepers::{DeskKeeper, Keeper};
+use journal::{Behind, Recorder};
+use keepers::{Bounds, DeskKeeper, DeskRecords, Keeper};
 use std::cell::Cell;
 use std::io::{Read, Write};
 use std::net::TcpStream;
@@ -33,45 +31,28 @@ impl<F: Fetcher, C: NumberedClock, A: Alarm, R: Wait + time::Clock> Server<'_, F
         listener: &Listener,
         left: &AtomicU64,
     ) -> Result<Receipts<G>, ServeFault> {
-        let fetcher = FetchesBehind {
-            ahead: recorded.abreast(),
-            fetcher: self.fetcher,
-        };
-        self.oversee_by(recorded, listener, left, &fetcher)
+        let fetcher = recorded.behind(self.fetcher);
+        self.oversee_at_desk(recorded, listener, left, &fetcher, recorded.records())
     }
 
-    // Serves overseers at a desk that fetches by this fetcher.
-    fn oversee_by<G: Gate, J: Recorder, B: Fetcher>(
+    // Opens a desk with this fetcher beside these records, serves overseers at it, and closes it whatever
+    // happened.
+    fn oversee_at_desk<G: Gate, J: Recorder, B: Fetcher, N: DeskRecords + Drop>(
         &self,
         recorded: &Recorded<'_, G, J, R>,
         listener: &Listener,
         left: &AtomicU64,
         fetcher: &B,
+        records: N,
     ) -> Result<Receipts<G>, ServeFault> {
-        let keeper = DeskKeeper::open(self.rt, self.alloc, recorded.gate, fetcher)?;
-        let (keeper, ended) = self.oversee_with(recorded, listener, left, keeper);
+        let (gate, bounds) = (recorded.gate, Bounds::none());
+        let mut keeper = DeskKeeper::open_within(
+            self.rt, self.alloc, gate, fetcher, records, bounds,
+        )?;
+        let ended = self.take_overseers(recorded, listener, left, &mut keeper);
         let receipts = keeper.close();
         ended?;
         Ok(receipts)
-    }
-
-    // Serves overseers by this keeper, through the journal.
-    fn oversee_with<G: Gate, J: Recorder, K: Keeper>(
-        &self,
-        recorded: &Recorded<'_, G, J, R>,
-        listener: &Listener,
-        left: &AtomicU64,
-        keeper: K,
-    ) -> (K, Result<(), DeviceFault>) {
-        let Recorded {
-            chronicle,
-            journal,
-            visits,
-            ..
-        } = recorded;
-        let mut keeper = RecordedKeeper::new(self.rt, chronicle, *journal, visits, keeper);
-        let ended = self.take_overseers(recorded, listener, left, &mut keeper);
-        (keeper.into_keeper(), ended)
     }
 
     // Serves them one at a time, until no worker is left.
@@ -139,6 +120,7 @@ impl<F: Fetcher, C: NumberedClock, A: Alarm, R: Wait + time::Clock> Server<'_, F
             keeper,
             self.clock,
             first,
+            &recorded.visits,
         );
     }
 

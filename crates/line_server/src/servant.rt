@@ -12,10 +12,8 @@ use command_server::{FirstLine, NumberedClock, serve_from};
 use counted_io::{Counted, DeviceFault};
 use fetchers::Fetcher;
 use gate_lock::{Gate, Receipts};
-use journal_files::Recorder;
-use journal_keepers::{FetchesBehind, RecordedKeeper};
-use journal_tape::Behind;
-use keepers::{DeskKeeper, Keeper};
+use journal::{Behind, Recorder};
+use keepers::{DeskKeeper, DeskRecords, Keeper};
 use std::cell::Cell;
 use std::io::{Read, Write};
 use std::net::TcpStream;
@@ -32,57 +30,35 @@ impl<F: Fetcher, C: NumberedClock, A: Alarm, R: Wait + time::Clock> Server<'_, F
         left: &AtomicU64,
         numbers: ConnectionNumbers<'_>,
     ) -> Result<(u64, Receipts<G>), ServeFault> {
-        let end = self.man_desk(recorded, numbers);
+        let fetcher = recorded.behind(self.fetcher);
+        let end = self.serve_at_desk(recorded, numbers, &fetcher, recorded.records());
         left.fetch_sub(1, Ordering::SeqCst);
         end
     }
 
-    // Opens a desk, serves clients at it, and closes it whatever happened.
-    fn man_desk<G: Gate, J: Recorder>(
-        &self,
-        recorded: &Recorded<'_, G, J, R>,
-        numbers: ConnectionNumbers<'_>,
-    ) -> Result<(u64, Receipts<G>), ServeFault> {
-        let fetcher = FetchesBehind {
-            ahead: recorded.abreast(),
-            fetcher: self.fetcher,
-        };
-        self.man_by(recorded, numbers, &fetcher)
-    }
-
-    // `man_desk` at a desk that fetches by this fetcher.
-    fn man_by<G: Gate, J: Recorder, B: Fetcher>(
-        &self,
-        recorded: &Recorded<'_, G, J, R>,
-        numbers: ConnectionNumbers<'_>,
-        fetcher: &B,
-    ) -> Result<(u64, Receipts<G>), ServeFault> {
-        let gate = recorded.gate;
-        let keeper = DeskKeeper::open_within(self.rt, self.alloc, gate, fetcher, self.bounds)?;
-        let mut taken = 0;
-        let (keeper, ended) = self.man_with(recorded, numbers, keeper, &mut taken);
-        let receipts = keeper.close();
-        ended?;
-        Ok((taken, receipts))
-    }
-
-    // Serves clients by this keeper, through the journal.
-    fn man_with<G: Gate, J: Recorder, K: Keeper>(
+    // Opens a desk with this fetcher beside these records, serves clients at it, and closes it whatever
+    // happened.
+    fn serve_at_desk<G: Gate, J: Recorder, B: Fetcher, N: DeskRecords + Drop>(
         &self,
         recorded: &Recorded<'_, G, J, R>,
         mut numbers: ConnectionNumbers<'_>,
-        keeper: K,
-        taken: &mut u64,
-    ) -> (K, Result<(), DeviceFault>) {
-        let Recorded {
-            chronicle,
-            journal,
-            visits,
-            ..
-        } = recorded;
-        let mut keeper = RecordedKeeper::new(self.rt, chronicle, *journal, visits, keeper);
-        let ended = self.take_all(recorded, &mut numbers, &mut keeper, taken);
-        (keeper.into_keeper(), ended)
+        fetcher: &B,
+        records: N,
+    ) -> Result<(u64, Receipts<G>), ServeFault> {
+        let gate = recorded.gate;
+        let mut keeper = DeskKeeper::open_within(
+            self.rt,
+            self.alloc,
+            gate,
+            fetcher,
+            records,
+            self.bounds,
+        )?;
+        let mut taken = 0;
+        let ended = self.take_all(recorded, &mut numbers, &mut keeper, &mut taken);
+        let receipts = keeper.close();
+        ended?;
+        Ok((taken, receipts))
     }
 
     // Serves clients until no number is left, or none can be accepted.
@@ -174,6 +150,7 @@ impl<F: Fetcher, C: NumberedClock, A: Alarm, R: Wait + time::Clock> Server<'_, F
             keeper,
             self.clock,
             first,
+            &recorded.visits,
         );
     }
 }

@@ -8,15 +8,15 @@ use crate::numbers::{ConnectionNumbers, count_of, numbers_at};
 use crate::recorded::Recorded;
 use crate::warden::Alarm;
 use client_connections::{Connections, Listener};
-use command_server::NumberedClock;
+use command_server::{NumberedClock, Visits};
 use desk_pool::{Pool, Returned};
 use fetchers::Fetcher;
 use gate_journal::Recording;
 use gate_lock::{Gate, GateLock, Receipts};
 use gate_settlement::{Settled, settle};
 use job_line::JobLine;
-use journal_files::{Recorder, Unrecorded};
-use keepers::{Bounds, Visits};
+use journal::Recorder;
+use keepers::Bounds;
 use path_normal::Authority;
 use std::alloc::{AllocError, Global};
 use std::sync::Wait;
@@ -77,35 +77,15 @@ impl<
     A: Alarm + Sync,
     R: Threads + Wait + time::Clock + Sync,
 > Server<'_, F, C, A, R> {
-    /// Serves clients over a gate without entries, and settles it. Each worker has its own thread, as far
-    /// as there are threads. What a session left open is given back at its end, whatever ended it, so
-    /// clients' faults don't affect the gate.
-    pub fn run<G: Gate + Send + Sync>(&self, gate: &GateLock<G>) -> Result<Served<G>, ServeFault>
-        requires { IsCrew self.now.workers }
-        ensures { IfOk result (λ served. IsServed served.receipts.items served.settled) }
-    {
-        self.run_recorded(gate, &Unrecorded)
-    }
-
-    /// `run` over a gate that is recorded from its first entry on: a reply is sent, and a page or
-    /// robots.txt fetched, only after all earlier entries are recorded. If recording fails, each session
-    /// ends at its next write, no more clients are accepted, and this returns a fault.
-    pub fn run_recorded<G: Gate + Send + Sync, J: Recorder + Sync>(
-        &self,
-        gate: &GateLock<G>,
-        journal: &J,
-    ) -> Result<Served<G>, ServeFault>
-        requires { IsCrew self.now.workers }
-        ensures { IfOk result (λ served. IsServed served.receipts.items served.settled) }
-    {
-        let (connections, receipts) = self.serve_gate(gate, journal, &[])?;
-        self.settle_served(gate, connections, receipts)
-    }
-
-    /// `run_recorded` over a gate that continues from a base: it is settled with the earlier receipts too,
-    /// which come last. The robots.txt files of these sites, whose fetches were interrupted, are fetched
-    /// anew on their own thread.
-    pub fn run_resumed<G: Gate + Send + Sync, J: Recorder + Sync>(
+    /// Serves clients over a gate, and settles it, with the receipts of its earlier entries too, which come
+    /// last. Each worker has its own thread, as far as there are threads. What a session left open is given
+    /// back at its end, whatever ended it, so clients' faults don't affect the gate. The robots.txt files of
+    /// these sites, whose fetches were interrupted, are fetched anew on their own thread.
+    ///
+    /// With a journal a reply is sent, and a page or robots.txt fetched, only after all earlier entries are
+    /// recorded. If recording fails, each session ends at its next write, no more clients are accepted, and
+    /// this returns a fault.
+    pub fn run<G: Gate + Send + Sync, J: Recorder + Sync>(
         &self,
         gate: &GateLock<G>,
         past: Receipts<G>,
@@ -118,7 +98,12 @@ impl<
     {
         let (connections, mut receipts) = self.serve_gate(gate, journal, begun)?;
         receipts.push(past).map_err(AllocError::from)?;
-        self.settle_served(gate, connections, receipts)
+        let settled = settle(self.rt, self.alloc, gate, &receipts)?;
+        Ok(Served {
+            connections,
+            settled,
+            receipts,
+        })
     }
 
     // The accepted connections, and the receipts of all desks.
@@ -157,23 +142,6 @@ impl<
         let (line, seats) = JobLine::new(self.alloc, count_of(self.connections), self.workers)?;
         let workers = Pool::new(self.alloc, numbers_at(self.alloc, &line, seats)?)?;
         self.serve_all(recorded, workers, begun)
-    }
-
-    fn settle_served<G: Gate + Send + Sync>(
-        &self,
-        gate: &GateLock<G>,
-        connections: u64,
-        receipts: Vec<Receipts<G>>,
-    ) -> Result<Served<G>, ServeFault>
-        ensures served { IfOk result (λ served. IsServed served.receipts.items served.settled) }
-        ensures same { IfOk result (λ served. served.receipts.items ≡ receipts.items) }
-    {
-        let settled = settle(self.rt, self.alloc, gate, &receipts)?;
-        Ok(Served {
-            connections,
-            settled,
-            receipts,
-        })
     }
 
     // Runs the workers on their own threads, and the gate's maintenance on another: the accepted connections,
@@ -244,7 +212,7 @@ impl<
         let (served, fetched) = thread::join(
             self.rt,
             || self.employ_all(recorded, left, workers),
-            || self.fetch_anew(recorded, left, begun),
+            || self.fetch_begun(recorded, left, begun),
         );
         Results {
             served,

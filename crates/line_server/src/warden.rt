@@ -14,7 +14,7 @@ use fetchers::Fetcher;
 use gate_core::Book;
 use gate_history::Entry;
 use gate_lock::{Desk, Gate, GateLock, Receipts};
-use journal_files::Recorder;
+use journal::Recorder;
 use robots_verdict::Said;
 use std::sync::Wait;
 use std::sync::atomic::{AtomicU64, Ordering};

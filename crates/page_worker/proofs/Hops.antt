@@ -20,7 +20,7 @@ use Rattle.http_wire.specs.declared.response.HttpReply.{HttpReply}
 use Rattle.robots_fetch.specs.declared.redirect.Stop.{Stop}
 use Rattle.robots_fetch.specs.declared.redirect.Stop.TheVariants as stops
 use Rattle.path_normal.specs.declared.schemes.Schemes.{Schemes}
-use Rattle.robots_fetch.specs.Redirects.{location_target_among, most_redirects, redirect_target_among}
+use Rattle.robots_fetch.specs.Redirects.{location_target, most_redirects, redirect_target}
 use Rattle.crawl_job.specs.declared.hop.Hop.{Hop}
 use Rattle.crawl_job.specs.declared.hop.Hop.TheVariants as hops
 use Rattle.crawl_job.specs.declared.hop.Refusal.{Refusal}
@@ -84,7 +84,7 @@ behind_refresh world url Tells old mid new before behind = record {
 }
 
 pub refused : (world : World) (token url : List ℕ) (refusal : Refusal)
-    (body : List ℕ) (desk : DeskView) → body ≡ [] → AddsEntries (IsLastHop world token url (hops.Refused refusal) body) desk desk
+    (body : List ℕ) (desk : DeskView) → body ≡ [] → AddsEntries (IsLastHop world token url (hops.Err refusal) body) desk desk
 refused world token url refusal body desk empty =
     record { own = []; adds = sym (append-nil (entries_of desk.marks)); tells = (refl, empty) }
 
@@ -160,9 +160,9 @@ target_if true target next is = (refl, is)
 target_if false target next is = absurd (not_both stops.TooManyRedirects next is)
 
 pub led : (schemes : Schemes) (followed : ℕ) (url : List ℕ) (location : Option (List ℕ)) (next : List ℕ) →
-    redirect_target_among schemes followed url location ≡ Ok next → (followed < most_redirects) × (location_target_among schemes url location ≡ Ok next)
+    redirect_target schemes followed url location ≡ Ok next → (followed < most_redirects) × (location_target schemes url location ≡ Ok next)
 led schemes followed url location next is =
-    let both = target_if (nat_lt followed most_redirects) (location_target_among schemes url location) next is in
+    let both = target_if (nat_lt followed most_redirects) (location_target schemes url location) next is in
     (ltb-true followed most_redirects both.0, both.1)
 
 last_fetch : (world : World) (token url : List ℕ) (number : ℕ) (reason : Reason)

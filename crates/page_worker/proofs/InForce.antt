@@ -31,7 +31,7 @@ not_both standing (inr (inr rules)) (inl unknown) = cc
 not_both standing (inr (inr rules)) (inr expired) = cc
 
 pub has_answer : (g : Gate) (authority : List ℕ) (m : ℕ) (state : State) → IsState (history g) authority (moment_at g m) state →
-    (state.standing ≡ standings.Closed) ⊎ ((state.standing ≡ standings.Open) ⊎ (state.standing ≡ standings.Rules)) → LacksAnswer g authority m → ⊥
+    (state.word ≡ standings.Closed) ⊎ ((state.word ≡ standings.Open) ⊎ (state.word ≡ standings.Rules)) → LacksAnswer g authority m → ⊥
 has_answer g authority m state is in_force lacks =
-    let same = stands_once (standing_of (history g) authority) (moment_at g m) lacks.0.standing state.standing lacks.1.0.standing is.standing in
-    not_both state.standing in_force (subst IsNoAnswer same lacks.1.1)
+    let same = stands_once (standing_of (history g) authority) (moment_at g m) lacks.0.word state.word lacks.1.0.standing is.standing in
+    not_both state.word in_force (subst IsNoAnswer same lacks.1.1)

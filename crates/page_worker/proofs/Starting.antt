@@ -69,14 +69,14 @@ last_starts world token url (hops.Fault number fault) body own last =
     fetch_starts world token url (hops.Fault number fault) last.given own last.fetch
 last_starts world token url (hops.No denial) body own (is, inl asked, empty) = ap numbers_started asked.own_is
 last_starts world token url (hops.No denial) body own (is, inr started, empty) = ap numbers_started started.own_is
-last_starts world token url (hops.Refused refusal) body own last = ap numbers_started last.0
+last_starts world token url (hops.Err refusal) body own last = ap numbers_started last.0
 last_starts world token url (hops.Stop stop) body own last = absurd last
 
 stop_starts : (followed : ℕ) (target : Result (List ℕ) Stop) (stop : Hop) → IsStop followed target stop →
     numbers_fetched (stop ∷ []) ≡ []
 stop_starts followed target (hops.Stop stop) is = refl
-stop_starts followed target (hops.Refused refusals.NoMemory) is = refl
-stop_starts followed target (hops.Refused refusal) is = absurd is
+stop_starts followed target (hops.Err refusals.NoMemory) is = refl
+stop_starts followed target (hops.Err refusal) is = absurd is
 stop_starts followed target (hops.Page number reason status size cut) is = absurd is
 stop_starts followed target (hops.Fault number fault) is = absurd is
 stop_starts followed target (hops.No denial) is = absurd is

@@ -12,7 +12,7 @@ use Rattle.gate_history.specs.declared.entry.Entry.TheVariants as entries
 use Rattle.http_wire.specs.declared.fault.WireFault.{WireFault}
 use Rattle.http_wire.specs.declared.response.HttpReply.{HttpReply}
 use Rattle.robots_fetch.specs.declared.redirect.Stop.{Stop}
-use Rattle.robots_fetch.specs.Redirects.{location_target_among, most_redirects, redirect_target_among}
+use Rattle.robots_fetch.specs.Redirects.{location_target, most_redirects, redirect_target}
 use Rattle.robots_fetch.specs.Statuses.{class_of}
 use Rattle.robots_fetch.specs.declared.status.StatusClass.TheVariants as classes
 use Rattle.crawl_job.specs.declared.hop.Hop.{Hop}
@@ -127,12 +127,12 @@ pub record IsFollowed
   pub given : Result HttpReply WireFault
   pub fetch : IsFetch world token url hop given own
   pub redirects : IsRedirect given
-  pub leads : location_target_among world.schemes url (location_given given) ≡ Ok next
+  pub leads : location_target world.schemes url (location_given given) ≡ Ok next
 
 -- why a redirect is not followed, after this many: no target, or no memory for it
 abbrev pub IsStop : ℕ → Result (List ℕ) Stop → Hop → Type 0
 IsStop followed target (hops.Stop stop) = target ≡ Err stop
-IsStop followed target (hops.Refused refusals.NoMemory) = followed < most_redirects
+IsStop followed target (hops.Err refusals.NoMemory) = followed < most_redirects
 IsStop followed target _ = ⊥
 
 -- a fetch, and why its redirect is not followed
@@ -143,7 +143,7 @@ pub record IsStopped
   pub given : Result HttpReply WireFault
   pub fetch : IsFetch world token url hop given own
   pub redirects : IsRedirect given
-  pub stops : IsStop followed (redirect_target_among world.schemes followed url (location_given given)) stop
+  pub stops : IsStop followed (redirect_target world.schemes followed url (location_given given)) stop
   pub body_is : body ≡ []
 
 -- a single last hop: a fetch without redirect, a denial or a refusal
@@ -156,7 +156,7 @@ IsLastHop world token url (hops.Fault number fault) body own =
 IsLastHop world token url (hops.No denial) body own =
     (denial.url ≡ url) × (IsAskDenied world token url denial.cause own ⊎ IsStartDenied world token url denial.cause own)
     × (body ≡ [])
-IsLastHop world token url (hops.Refused refusal) body own = (own ≡ []) × (body ≡ [])
+IsLastHop world token url (hops.Err refusal) body own = (own ≡ []) × (body ≡ [])
 IsLastHop world token url (hops.Stop stop) body own = ⊥
 
 -- the last hops at a URL after this many redirects: a single one, or a redirect and why it is not followed

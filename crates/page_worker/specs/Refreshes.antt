@@ -57,7 +57,7 @@ pub record BeganStale (authority : List ℕ) (begun turn : ℕ) : Type 0 where
   pub legal : HasLegalHistory before
   pub state : State
   pub state_is : IsState (history before) authority begun state
-  pub lacks : IsNoAnswer state.standing
+  pub lacks : IsNoAnswer state.word
   pub turn_is : turn ≡ begins (history before) + 1
 
 -- a turn begins at a desk, under one lock with the check that found no answer of the authority in force

@@ -18,7 +18,7 @@ IsNoAnswer standing = (standing ≡ standings.Unknown) ⊎ (standing ≡ standin
 -- the gate has no answer of the authority in force when called
 abbrev pub LacksAnswer : Gate → List ℕ → ℕ → Type 0
 LacksAnswer g authority m =
-    (state : State) × (IsState (history g) authority (moment_at g m) state × IsNoAnswer state.standing)
+    (state : State) × (IsState (history g) authority (moment_at g m) state × IsNoAnswer state.word)
 
 -- a turn begins if no answer is in force; if one is, or the begin is refused, the desk only looks
 abbrev pub BeginsIfStale : DeskView → Gate → List ℕ → ℕ → Result (Option Errand) BeginRefusal → Gate → DeskView → Type 0

@@ -10,7 +10,7 @@ use Rattle.http_wire.specs.declared.fault.WireFault.{WireFault}
 use Rattle.http_wire.specs.declared.response.HttpReply.{HttpReply}
 use Rattle.robots_fetch.specs.declared.redirect.Stop.{Stop}
 use Rattle.path_normal.specs.declared.schemes.Schemes.{Schemes}
-use Rattle.robots_fetch.specs.Redirects.{most_redirects, redirect_target_among}
+use Rattle.robots_fetch.specs.Redirects.{most_redirects, redirect_target}
 use Rattle.crawl_job.specs.declared.hop.Hop.{Hop}
 use Rattle.crawl_job.specs.declared.hop.Hop.TheVariants as hops
 use Rattle.crawl_job.specs.declared.hop.Refusal.TheVariants as refusals
@@ -29,10 +29,10 @@ pub record AddsEntries (Tells : List Entry → Type 0) (old new : DeskView) : Ty
 -- the hop of an ask without permit
 abbrev pub ask_hop : AskRefusal → Hop
 ask_hop (asks.Denied denial) = hops.No denial
-ask_hop asks.LogFull = hops.Refused refusals.LogFull
-ask_hop asks.Busy = hops.Refused refusals.Busy
-ask_hop asks.PermitsFull = hops.Refused refusals.PermitsFull
-ask_hop asks.NoMemory = hops.Refused refusals.NoMemory
+ask_hop asks.LogFull = hops.Err refusals.LogFull
+ask_hop asks.Busy = hops.Err refusals.Busy
+ask_hop asks.PermitsFull = hops.Err refusals.PermitsFull
+ask_hop asks.NoMemory = hops.Err refusals.NoMemory
 
 -- a redirect with its target or why it has none, after this many followed
 abbrev pub LeadsOn : ℕ → Result (List ℕ) Stop → Hop → WayOn → Type 0
@@ -46,11 +46,11 @@ GoesOn schemes number reason followed url given (ways.Ends hop body) =
     (hop ≡ hop_of number reason given) × (IsRedirect given → ⊥) × (body.items ≡ body_given given)
 GoesOn schemes number reason followed url given (ways.Leads hop next) =
     IsRedirect given
-    × LeadsOn followed (redirect_target_among schemes followed url (location_given given)) (hop_of number reason given)
+    × LeadsOn followed (redirect_target schemes followed url (location_given given)) (hop_of number reason given)
     (ways.Leads hop next)
 GoesOn schemes number reason followed url given (ways.Stops hop stop) =
     IsRedirect given
-    × LeadsOn followed (redirect_target_among schemes followed url (location_given given)) (hop_of number reason given)
+    × LeadsOn followed (redirect_target schemes followed url (location_given given)) (hop_of number reason given)
     (ways.Stops hop stop)
 
 -- the entries of a hop, after a refresh of its authority

@@ -50,7 +50,7 @@ fn is_unknown_in<G: Gate>(desk: &mut Desk<'_, G>, held: &mut Held<'_, G>, author
     requires { desk.old.seen ≤ entry_count (history held.old) }
     ensures { LooksFor desk.old held.old authority.now result held.new desk.new }
 {
-    match desk.state_in(held, authority, 0).standing {
+    match desk.state_in(held, authority, 0).word {
         Standing::Unknown => true,
         Standing::Expired | Standing::Closed | Standing::Open | Standing::Rules => false,
     }

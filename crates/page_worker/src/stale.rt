@@ -28,7 +28,7 @@ pub(crate) fn begin_if_stale<G: Gate>(
         newcomers.old result newcomers.new }
 {
     let state = desk.state_in(held, url.authority(), moment);
-    match state.standing {
+    match state.word {
         Standing::Closed | Standing::Open | Standing::Rules => return Ok(None),
         Standing::Unknown | Standing::Expired => {}
     }

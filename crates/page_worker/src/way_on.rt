@@ -2,7 +2,7 @@
 //! RFC 9110, section 15.4.
 ghost use Rattle.std.specs.Prelude.{string_bytes};
 ghost use Rattle.std.specs.Option.{option_map};
-ghost use Rattle.robots_fetch.specs.Redirects.{redirect_target_among};
+ghost use Rattle.robots_fetch.specs.Redirects.{redirect_target};
 ghost use Rattle.page_worker.specs.WaysOn.{GoesOn, LeadsOn};
 
 use crawl_job::{Hop, Refusal};
@@ -10,7 +10,7 @@ use gate_history::Reason;
 use http_wire::{HttpReply, WireFault};
 use path_normal::{PageUrl, Schemes};
 use permit_book::PermitNo;
-use robots_fetch::{MAX_REDIRECTS, Nowhere, StatusClass, Stop, class_of, redirect_target_among};
+use robots_fetch::{MAX_REDIRECTS, Nowhere, StatusClass, Stop, class_of, redirect_target};
 use std::alloc::Global;
 
 /// Where a job continues after a hop.
@@ -62,14 +62,14 @@ fn follow(
     location: &Option<String>,
 ) -> WayOn
     ensures { LeadsOn followed
-        (redirect_target_among schemes followed url.now (option_map string_bytes location.now)) page result }
+        (redirect_target schemes followed url.now (option_map string_bytes location.now)) page result }
 {
     if followed >= MAX_REDIRECTS {
         return WayOn::Stops(page, Hop::Stop(Stop::TooManyRedirects));
     }
-    match redirect_target_among(schemes, followed, url, location) {
+    match redirect_target(schemes, followed, url, location) {
         Ok(next) => WayOn::Leads(page, next),
         Err(Nowhere::Stop(stop)) => WayOn::Stops(page, Hop::Stop(stop)),
-        Err(Nowhere::NoMemory) => WayOn::Stops(page, Hop::Refused(Refusal::NoMemory)),
+        Err(Nowhere::NoMemory) => WayOn::Stops(page, Hop::Err(Refusal::NoMemory)),
     }
 }

@@ -107,11 +107,11 @@ impl<F: Fetcher, C: Clock, N: EventObserver, R: Wait> Worker<'_, F, C, N, R> {
         let seen = self.see_to_answer(&url, desk, newcomers);
         self.notes.sees(Event::Answered(url.authority()));
         if let Err(refusal) = seen {
-            return WayOn::Ends(Hop::Refused(refusal), Vec::new(self.alloc));
+            return WayOn::Ends(Hop::Err(refusal), Vec::new(self.alloc));
         }
         match token.copy() {
             Ok(token) => self.fetch_asked(token, url, followed, desk),
-            Err(_) => WayOn::Ends(Hop::Refused(Refusal::NoMemory), Vec::new(self.alloc)),
+            Err(_) => WayOn::Ends(Hop::Err(Refusal::NoMemory), Vec::new(self.alloc)),
         }
     }
 
@@ -247,9 +247,9 @@ fn ask_hop(refusal: AskRefusal) -> Hop
 {
     match refusal {
         AskRefusal::Denied(denial) => Hop::No(denial),
-        AskRefusal::LogFull => Hop::Refused(Refusal::LogFull),
-        AskRefusal::Busy => Hop::Refused(Refusal::Busy),
-        AskRefusal::PermitsFull => Hop::Refused(Refusal::PermitsFull),
-        AskRefusal::NoMemory => Hop::Refused(Refusal::NoMemory),
+        AskRefusal::LogFull => Hop::Err(Refusal::LogFull),
+        AskRefusal::Busy => Hop::Err(Refusal::Busy),
+        AskRefusal::PermitsFull => Hop::Err(Refusal::PermitsFull),
+        AskRefusal::NoMemory => Hop::Err(Refusal::NoMemory),
     }
 }

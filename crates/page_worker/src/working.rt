@@ -81,7 +81,7 @@ pub fn work_observed<G: Gate, F: Fetcher, C: Clock, N: EventObserver, R: Wait>(
 
 /// `work` for one who may make only so many more authorities known: those without an answer of any age at
 /// the begin of a hop, the first or one that a redirect leads to. Without one left, the job ends with the
-/// hop `Refused(AuthoritiesFull)`.
+/// hop `Err(AuthoritiesFull)`.
 pub fn work_within<G: Gate, F: Fetcher, C: Clock, R: Wait>(
     rt: &R,
     alloc: Global,

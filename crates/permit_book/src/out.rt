@@ -1,16 +1,17 @@
 //! A slot of the table, and what is outstanding in it.
 //! A permit is for one fetch of a URL under a token (RFC 9309, 2.2.1).
-ghost use Rattle.std.specs.Prelude.{◌≡◌, true};
+ghost use Rattle.std.specs.Prelude.{◌≡◌, true, IfOk};
 ghost use Rattle.std.specs.Option.{option_copied};
 ghost use Rattle.permit_book.specs.Table.{decided, is_fetch_of, is_free, is_nothing, is_out_for, is_permit_for, is_running_out, is_unspent_out, url_out};
 
 use crate::number::LAST_GENERATION;
 use path_normal::PageUrl;
 use robots_text::Token;
+use std::alloc::AllocError;
 use std::mem;
 
-/// One fetch of a URL under a product token.
-#[derive(Drop)]
+/// One fetch of a URL under a product token. Its copies share their texts, since a history has many.
+#[derive(Drop, PartialEq, Eq)]
 pub struct Fetch {
     /// The token that may make it.
     pub token: Token,
@@ -39,6 +40,23 @@ pub struct Slot {
 }
 
 impl Fetch {
+    /// The fetch of this URL under this token. Takes no memory: the texts are shared.
+    pub fn of(token: &Token, url: &PageUrl) -> Result<Fetch, AllocError>
+        ensures { IfOk result (λ fetch. fetch ≡ record { token = token.now; url = url.now }) }
+    {
+        Ok(Fetch {
+            token: token.copy()?,
+            url: url.copy()?,
+        })
+    }
+
+    /// A copy of it. Takes no memory.
+    pub fn copy(&self) -> Result<Fetch, AllocError>
+        ensures { IfOk result (λ copy. copy ≡ self.now) }
+    {
+        Fetch::of(&self.token, &self.url)
+    }
+
     /// Whether it has this URL and token.
     pub fn is_of(&self, token: &Token, url: &PageUrl) -> bool
         ensures { result ≡ is_fetch_of token.now url.now self.now }

@@ -3,8 +3,8 @@
 use Rattle.std.specs.Prelude.{◌≡◌, ◌≢◌, List, ℕ, ◌^◌, ◌-◌, Option, Some, None, codes, string_bytes}
 use Rattle.clap.specs.Words.{first_value}
 use Rattle.clap.specs.declared.parser.matches.Found.{Found}
-use Rattle.journal_files.specs.declared.policy.SyncPolicy.{SyncPolicy}
-use Rattle.journal_files.specs.declared.policy.SyncPolicy.TheVariants as syncs
+use Rattle.journal.specs.declared.policy.SyncPolicy.{SyncPolicy}
+use Rattle.journal.specs.declared.policy.SyncPolicy.TheVariants as syncs
 use Rattle.program_arguments.specs.Numbers.{IsBoundOf, IsBoundWithin}
 use Rattle.program_arguments.specs.declared.subcommand.JournalOptions.{JournalOptions}
 

@@ -6,7 +6,7 @@ ghost use Rattle.program_arguments.specs.Options.{AreForFetching, AreFetchingOf,
 ghost use Rattle.program_arguments.specs.Blocks.{AreBlocks, AreBlocksOf};
 
 use crate::contact::contact_of;
-use crate::journal::{journal_of, sync_of};
+use crate::journal_options::{journal_of, sync_of};
 use crate::number_options::JOURNAL_ROOM;
 use crate::numbers::bound_of;
 use crate::subcommand::{Contact, JournalOptions};

@@ -8,7 +8,7 @@ mod command;
 mod contact;
 mod fetching;
 mod help;
-mod journal;
+mod journal_options;
 mod number_arguments;
 mod number_options;
 mod numbers;

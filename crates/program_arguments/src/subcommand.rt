@@ -3,7 +3,7 @@
 use client_connections::Connections;
 use gate_core::Limits;
 use http_client::{AddressBlock, Reach, TimeLimits};
-use journal_files::SyncPolicy;
+use journal::SyncPolicy;
 use path_normal::Schemes;
 use robots_check::Detail;
 use robots_text::Token;

@@ -1,5 +1,5 @@
 //! Why arguments that `clap` takes are refused.
-use crate::journal::NoSync;
+use crate::journal_options::NoSync;
 use crate::tls::NotLoopback;
 use std::alloc::AllocError;
 

@@ -2,7 +2,7 @@
 //! docs/FAULTS.md has each.
 
 use crate::ending::Ending;
-use journal_files::{FolderFault, JournalFault};
+use journal::{FolderFault, JournalFault};
 use std::io;
 
 /// Prints why a folder can't be a journal's; the program ends.

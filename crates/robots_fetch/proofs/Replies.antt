@@ -13,7 +13,7 @@ use Rattle.robots_fetch.specs.declared.reply.RobotsReply.{RobotsReply}
 use Rattle.robots_fetch.specs.declared.reply.RobotsReply.TheVariants.{Status, CodingFault, NetworkFault}
 use Rattle.robots_fetch.specs.declared.status.StatusClass.{StatusClass}
 use Rattle.robots_fetch.specs.declared.status.StatusClass.TheVariants as classes
-use Rattle.robots_fetch.specs.Redirects.{location_target_among, most_redirects, redirect_target_among}
+use Rattle.robots_fetch.specs.Redirects.{location_target, most_redirects, redirect_target}
 use Rattle.robots_fetch.specs.Statuses.{class_of}
 use Rattle.robots_fetch.specs.Walk.{EndsWalkAmong, LeadsAmong, LeadsOverAmong, ResponseSays, StopSays, asked_life}
 
@@ -22,7 +22,7 @@ ok_one target a b one other = cc
 
 pub leads_one : (schemes : Schemes) (url : List ℕ) (reply : RobotsReply) (a b : List ℕ) → LeadsAmong schemes url reply a → LeadsAmong schemes url reply b → a ≡ b
 leads_one schemes url (Status code location body max_age) a b one other =
-    ok_one (location_target_among schemes url (option_map string_bytes location)) a b one.1 other.1
+    ok_one (location_target schemes url (option_map string_bytes location)) a b one.1 other.1
 leads_one schemes url CodingFault a b one other = absurd one
 leads_one schemes url NetworkFault a b one other = absurd one
 
@@ -40,17 +40,17 @@ response_one classes.Other target body a b one other = one ∙ sym other
 ends_one : (schemes : Schemes) (followed : ℕ) (url : List ℕ) (reply : RobotsReply) (a b : Said) →
     EndsWalkAmong schemes followed url reply a → EndsWalkAmong schemes followed url reply b → a ≡ b
 ends_one schemes followed url (Status code location body max_age) a b one other =
-    response_one (class_of code) (redirect_target_among schemes followed url (option_map string_bytes location)) body.items a b one other
+    response_one (class_of code) (redirect_target schemes followed url (option_map string_bytes location)) body.items a b one other
 ends_one schemes followed url CodingFault a b one other = one ∙ sym other
 ends_one schemes followed url NetworkFault a b one other = one ∙ sym other
 
 pub leads_on : (schemes : Schemes) (followed : ℕ) (url : List ℕ) (reply : RobotsReply) (next : List ℕ) (says : Said) →
     followed < most_redirects → LeadsAmong schemes url reply next → EndsWalkAmong schemes followed url reply says → ⊥
 leads_on schemes followed url (Status code location body max_age) next says few leads ends =
-    let target : redirect_target_among schemes followed url (option_map string_bytes location) ≡ Ok next =
+    let target : redirect_target schemes followed url (option_map string_bytes location) ≡ Ok next =
     rw (lt-ltb followed most_redirects few) leads.1 in
     subst (λ t. StopSays t says) target
-    (subst (λ c. ResponseSays c (redirect_target_among schemes followed url (option_map string_bytes location)) body.items says) leads.0 ends)
+    (subst (λ c. ResponseSays c (redirect_target schemes followed url (option_map string_bytes location)) body.items says) leads.0 ends)
 leads_on schemes followed url CodingFault next says few leads ends = absurd leads
 leads_on schemes followed url NetworkFault next says few leads ends = absurd leads
 

@@ -4,7 +4,6 @@ use Rattle.std.specs.Prelude.{◌≡◌, ℕ, List, Option, None, Some, Result, 
 use Rattle.path_normal.specs.declared.fault.UrlFault.{UrlFault}
 use Rattle.path_normal.specs.declared.fault.UrlFault.TheVariants as faults
 use Rattle.path_normal.specs.declared.schemes.Schemes.{Schemes}
-use Rattle.path_normal.specs.declared.schemes.Schemes.TheVariants.{Http}
 use Rattle.path_normal.specs.Capacity.{Enough}
 use Rattle.path_normal.specs.PageUrl.{page_url_on_among}
 use Rattle.robots_fetch.specs.declared.redirect.Nowhere.{Nowhere}
@@ -23,22 +22,14 @@ followed_page (Err faults.NotHttp) = Err Scheme
 followed_page (Err fault) = Err BadRedirect
 
 -- where a redirect from a URL leads, in these schemes
-abbrev pub location_target_among : Schemes → List ℕ → Option (List ℕ) → Result (List ℕ) Stop
-location_target_among schemes url None = Err BadRedirect
-location_target_among schemes url (Some location) = followed_page (page_url_on_among schemes url location Enough)
+abbrev pub location_target : Schemes → List ℕ → Option (List ℕ) → Result (List ℕ) Stop
+location_target schemes url None = Err BadRedirect
+location_target schemes url (Some location) = followed_page (page_url_on_among schemes url location Enough)
 
 -- where a redirect from a URL leads, after so many, in these schemes
-abbrev pub redirect_target_among : Schemes → ℕ → List ℕ → Option (List ℕ) → Result (List ℕ) Stop
-redirect_target_among schemes followed url location =
-    if nat_lt followed most_redirects then location_target_among schemes url location else Err TooManyRedirects
-
--- where a redirect from a URL leads, if only `http` is read
-abbrev pub location_target : List ℕ → Option (List ℕ) → Result (List ℕ) Stop
-location_target = location_target_among Http
-
--- where a redirect from a URL leads, after so many, if only `http` is read
-abbrev pub redirect_target : ℕ → List ℕ → Option (List ℕ) → Result (List ℕ) Stop
-redirect_target = redirect_target_among Http
+abbrev pub redirect_target : Schemes → ℕ → List ℕ → Option (List ℕ) → Result (List ℕ) Stop
+redirect_target schemes followed url location =
+    if nat_lt followed most_redirects then location_target schemes url location else Err TooManyRedirects
 
 -- the expected result, unless memory ran out or the crate `url` overflowed
 abbrev pub IsTarget : Result (List ℕ) Nowhere → Result (List ℕ) Stop → Type 0

@@ -12,7 +12,7 @@ use Rattle.robots_fetch.specs.declared.reply.RobotsReply.{RobotsReply}
 use Rattle.robots_fetch.specs.declared.walk.Step.{Step}
 use Rattle.robots_fetch.specs.declared.walk.Step.TheVariants.{Go, Done, NoMemory}
 use Rattle.robots_fetch.specs.declared.walk.Walk.{Walk}
-use Rattle.robots_fetch.specs.Redirects.{location_target_among, most_redirects, redirect_target_among}
+use Rattle.robots_fetch.specs.Redirects.{location_target, most_redirects, redirect_target}
 use Rattle.robots_fetch.specs.Walk.{EndsWalkAmong, LeadsAmong, StopSays, asked_life}
 
 -- the next URL to fetch
@@ -56,10 +56,10 @@ GivesRules walk body max_age (NoMemory kept) = kept ≡ walk
 -- a step by a redirect, in these schemes
 abbrev pub FollowsRedirect : Schemes → Walk → Option (List ℕ) → Step → Type 0
 FollowsRedirect schemes walk location (Go next) =
-    (location_target_among schemes walk.url location ≡ Ok next.url) × (walk.followed < most_redirects)
+    (location_target schemes walk.url location ≡ Ok next.url) × (walk.followed < most_redirects)
     × (next.followed ≡ walk.followed + 1)
 FollowsRedirect schemes walk location (Done answer) =
-    StopSays (redirect_target_among schemes walk.followed walk.url location) answer.says
+    StopSays (redirect_target schemes walk.followed walk.url location) answer.says
     × ((asked : ℕ) → answer.life ≡ life_of answer.says asked) × (answer.spares ≡ 2)
 FollowsRedirect schemes walk location (NoMemory kept) = kept ≡ walk
 

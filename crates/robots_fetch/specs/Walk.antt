@@ -17,7 +17,7 @@ use Rattle.robots_fetch.specs.declared.reply.RobotsReply.{RobotsReply}
 use Rattle.robots_fetch.specs.declared.reply.RobotsReply.TheVariants.{Status, CodingFault, NetworkFault}
 use Rattle.robots_fetch.specs.declared.status.StatusClass.{StatusClass}
 use Rattle.robots_fetch.specs.declared.status.StatusClass.TheVariants as classes
-use Rattle.robots_fetch.specs.Redirects.{location_target_among, most_redirects, redirect_target_among}
+use Rattle.robots_fetch.specs.Redirects.{location_target, most_redirects, redirect_target}
 use Rattle.robots_fetch.specs.Statuses.{class_of}
 
 -- the answer by a redirect that isn't followed; a followed one gives none
@@ -39,7 +39,7 @@ ResponseSays classes.Other target body says = says ≡ Closed closures.Other
 abbrev pub EndsWalkAmong : Schemes → ℕ → List ℕ → RobotsReply → Said → Type 0
 EndsWalkAmong schemes followed url (Status code location body max_age) says =
     ResponseSays (class_of code)
-    (redirect_target_among schemes followed url (option_map string_bytes location)) body.items says
+    (redirect_target schemes followed url (option_map string_bytes location)) body.items says
 EndsWalkAmong schemes followed url CodingFault says = says ≡ Closed closures.Coding
 EndsWalkAmong schemes followed url NetworkFault says = says ≡ Closed closures.Network
 
@@ -47,7 +47,7 @@ EndsWalkAmong schemes followed url NetworkFault says = says ≡ Closed closures.
 abbrev pub LeadsAmong : Schemes → List ℕ → RobotsReply → List ℕ → Type 0
 LeadsAmong schemes url (Status code location body max_age) next =
     (class_of code ≡ classes.Redirect)
-    × (location_target_among schemes url (option_map string_bytes location) ≡ Ok next)
+    × (location_target schemes url (option_map string_bytes location) ≡ Ok next)
 LeadsAmong schemes url CodingFault next = ⊥
 LeadsAmong schemes url NetworkFault next = ⊥
 

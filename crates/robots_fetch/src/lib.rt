@@ -8,7 +8,7 @@ mod reply;
 mod status;
 mod walk;
 
-pub use redirect::{MAX_REDIRECTS, Nowhere, Stop, redirect_target, redirect_target_among};
+pub use redirect::{MAX_REDIRECTS, Nowhere, Stop, redirect_target};
 pub use reply::RobotsReply;
 pub use status::{StatusClass, class_of};
 pub use walk::{Step, Walk};

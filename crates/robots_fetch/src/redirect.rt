@@ -1,8 +1,8 @@
 //! Where a redirect leads.
 //! RFC 9309, section 2.3.1.2; RFC 9110, section 15.4.
-ghost use Rattle.std.specs.Prelude.{◌≡◌, string_bytes};
+ghost use Rattle.std.specs.Prelude.{string_bytes};
 ghost use Rattle.std.specs.Option.{option_map};
-ghost use Rattle.robots_fetch.specs.Redirects.{IsTarget, redirect_target, redirect_target_among};
+ghost use Rattle.robots_fetch.specs.Redirects.{IsTarget, redirect_target};
 
 use path_normal::{PageUrl, Schemes, Unread, UrlFault};
 
@@ -29,30 +29,18 @@ pub enum Nowhere {
     NoMemory,
 }
 
-/// Where a redirect from this URL leads, after so many redirects, if only `http` is read.
-/// `TooManyRedirects` comes first, whatever the Location, which may be relative (RFC 9110, 10.2.2). Of
-/// several faults the one that `PageUrl::read_on` reports decides.
+/// Where a redirect from this URL leads, after so many redirects, among pages of these schemes: it may lead
+/// from each to each (RFC 9309, 2.3.1.2 has no rule on schemes). `TooManyRedirects` comes first, whatever
+/// the Location, which may be relative (RFC 9110, 10.2.2). Of several faults the one that
+/// `PageUrl::read_on_among` reports decides.
 pub fn redirect_target(
-    followed: u64,
-    url: &PageUrl,
-    location: &Option<String>,
-) -> Result<PageUrl, Nowhere>
-    ensures { IsTarget result
-        (redirect_target followed url.now (option_map string_bytes location.now)) }
-{
-    redirect_target_among(Schemes::Http, followed, url, location)
-}
-
-/// Like `redirect_target`, with these schemes: redirects lead both ways between them (RFC 9309, 2.3.1.2 has
-/// no rule on schemes).
-pub fn redirect_target_among(
     schemes: Schemes,
     followed: u64,
     url: &PageUrl,
     location: &Option<String>,
 ) -> Result<PageUrl, Nowhere>
     ensures { IsTarget result
-        (redirect_target_among schemes followed url.now (option_map string_bytes location.now)) }
+        (redirect_target schemes followed url.now (option_map string_bytes location.now)) }
 {
     if followed >= MAX_REDIRECTS {
         return Err(Nowhere::Stop(Stop::TooManyRedirects));

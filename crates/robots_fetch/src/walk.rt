@@ -8,7 +8,7 @@ ghost use Rattle.robots_verdict.specs.declared.said.Said.{Said};
 ghost use Rattle.robots_fetch.specs.Steps.{FollowsRedirect, GivesRules, IsBegun, Steps, StepsAmong, for_a_day, next_url};
 ghost use Rattle.robots_fetch.specs.declared.walk.Step.{Step as StepValue};
 
-use crate::redirect::{Nowhere, Stop, redirect_target_among};
+use crate::redirect::{Nowhere, Stop, redirect_target};
 use crate::reply::RobotsReply;
 use crate::status::{StatusClass, class_of};
 use authority_cache::{LIFE, TimedAnswer};
@@ -96,7 +96,7 @@ impl Walk {
     fn follow(self, schemes: Schemes, location: &Option<String>) -> Step
         ensures { FollowsRedirect schemes self (option_map string_bytes location.now) result }
     {
-        match redirect_target_among(schemes, self.followed, &self.url, location) {
+        match redirect_target(schemes, self.followed, &self.url, location) {
             Ok(url) => Step::Go(Walk {
                 url,
                 followed: self.followed + 1,

@@ -5,8 +5,8 @@ ghost use Rattle.gate_lock.specs.Desks.{HasOut, KeepsOut, out_of};
 
 use super::gates::PAGE;
 use authority_cache::{LIFE, TimedAnswer};
-use gate_core::{AskRefusal, BeginRefusal};
-use gate_lock::{Desk, DeskAsk, DesksFull, Gate, GateLock, Permit, Receipts, RobotsTurn};
+use gate_core::{AskRefusal, BeginRefusal, Judged};
+use gate_lock::{Desk, DesksFull, Gate, GateLock, Permit, Receipts, RobotsTurn};
 use gate_settlement::{SettleFault, settle};
 use path_normal::{Authority, PageUrl};
 use robots_text::Token;
@@ -95,9 +95,8 @@ fn asked<G: Gate, R: Wait>(
     match form {
         CallForm::Plain => desk.ask(rt, token, url, 110),
         CallForm::Held => {
-            let ask = DeskAsk::new(token, url)?;
             let mut held = desk.lend(rt);
-            desk.ask_in(&mut held, ask, 110)
+            desk.ask_in(&mut held, Judged::new(None, token, url), 110)
         }
     }
 }

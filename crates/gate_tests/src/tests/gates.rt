@@ -6,11 +6,11 @@ ghost use Rattle.gate_history.specs.Base.{empty_base};
 use super::desk_calls::{CallForm, Totals, bring, give_back, totals};
 use authority_cache::{LIFE, TurnNo};
 use gate_core::{Book, Config, Limits, NoMemory};
-use gate_history::{Entry, FetchText};
+use gate_history::Entry;
 use gate_lock::{Gate, GateLock, Receipts, marks_fit};
 use gate_settlement::{SettleFault, Visit, receipts_fit, with_gate};
 use path_normal::{Authority, PageUrl};
-use permit_book::PermitNo;
+use permit_book::{Fetch, PermitNo};
 use robots_text::Token;
 use robots_verdict::{Opening, Said};
 use std::alloc::Global;
@@ -99,7 +99,7 @@ fn granted(alloc: Global, page: &str, number: u64) -> Result<Entry, Fail> {
     Ok(Entry::Granted {
         moment: 110,
         number: PermitNo::new(number),
-        fetch: FetchText::of(&token, &url)?,
+        fetch: Fetch::of(&token, &url)?,
     })
 }
 

@@ -50,8 +50,8 @@ fn brings_one(alloc: Global, book: &mut Book) -> Result<(), Fail> {
         return Err(Fail::new("no index is made"));
     }
     let token = Token::new(alloc, b"foobot")?;
-    let judged = Judged::new(token, PageUrl::parse(alloc, PAGE)?)?;
-    is_denied(book.ask_judged(judged.judged_by(policy), 120).err())?;
+    let judged = Judged::new(Some(policy), token, PageUrl::parse(alloc, PAGE)?);
+    is_denied(book.ask_judged(judged, 120).err())?;
     is_indexed(book, true)
 }
 

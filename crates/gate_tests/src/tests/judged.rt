@@ -1,13 +1,12 @@
 //! An ask judged before the lock was taken: the answer in force under the lock decides.
 //! RFC 9309, section 2.2.2.
-ghost use Rattle.std.specs.Prelude.{◌≡◌};
 ghost use Rattle.gate_lock.specs.Desks.{KeepsOut};
 
 use super::gates::book;
 use authority_cache::{LIFE, TimedAnswer};
-use gate_core::AskRefusal;
+use gate_core::{AskRefusal, Judged};
 use gate_history::Cause;
-use gate_lock::{Desk, DeskAsk, Gate, GateLock};
+use gate_lock::{Desk, Gate, GateLock};
 use gate_settlement::{Visit, with_gate};
 use path_normal::{Authority, PageUrl};
 use robots_text::{RobotsText, Token};
@@ -83,7 +82,7 @@ fn judged_ask<G: Gate, R: Wait>(
     site: &Authority,
     before: Option<&str>,
     after: Option<&str>,
-) -> Result<DeskAsk, Fail>
+) -> Result<Judged, Fail>
     ensures { KeepsOut desk.old desk.new }
 {
     load(rt, alloc, desk, site, before)?;
@@ -125,7 +124,7 @@ fn judge<G: Gate, R: Wait>(
     alloc: Global,
     desk: &Desk<'_, G>,
     has_rules: bool,
-) -> Result<DeskAsk, Fail> {
+) -> Result<Judged, Fail> {
     let token = Token::new(alloc, b"FooBot")?;
     let url = PageUrl::parse(alloc, PAGE)?;
     let policy = {
@@ -135,18 +134,14 @@ fn judge<G: Gate, R: Wait>(
     if policy.is_some() != has_rules {
         return Err(Fail::new("a policy where there are no rules, or none where there are"));
     }
-    let ask = DeskAsk::new(token, url)?;
-    match policy {
-        Some(policy) => Ok(ask.judged_by(policy)),
-        None => Ok(ask),
-    }
+    Ok(Judged::new(policy, token, url))
 }
 
 // The granted number, which is given back, or the cause of the denial.
 fn ask<G: Gate, R: Wait>(
     rt: &R,
     desk: &mut Desk<'_, G>,
-    judged: Result<DeskAsk, Fail>,
+    judged: Result<Judged, Fail>,
     moment: u64,
 ) -> Result<Result<u64, Cause>, Fail>
     ensures { KeepsOut desk.old desk.new }

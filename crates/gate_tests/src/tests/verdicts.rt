@@ -45,11 +45,7 @@ fn compares(rt: &HostRuntime, book: &mut Book) -> Result<(), Fail> {
 fn nanos(rt: &HostRuntime, book: &mut Book, policy: Option<Arc<Policy>>) -> Result<u128, Fail> {
     let token = Token::new(rt.alloc(), b"foobot")?;
     let page = repeated(rt.alloc(), "http://a.example/", "ab", 2_000)?;
-    let ask = Judged::new(token, PageUrl::parse(rt.alloc(), page.as_str())?)?;
-    let judged = match policy {
-        Some(policy) => ask.judged_by(policy),
-        None => ask,
-    };
+    let judged = Judged::new(policy, token, PageUrl::parse(rt.alloc(), page.as_str())?);
     let begun = Instant::now(rt)?;
     let answer = book.ask_judged(judged, 120);
     let nanos = begun.elapsed(rt)?.as_nanos();

@@ -4,9 +4,11 @@ ghost use Rattle.std.specs.Prelude.{◌<◌};
 
 use super::demand;
 use authority_cache::{LIFE, TimedAnswer, TurnNo};
-use command_server::{BookKeeper, SessionFault, serve};
+use command_lines::SessionFault;
+use command_server::serve;
 use counted_io::FailAt;
 use gate_core::{Book, Limits};
+use keepers::BookKeeper;
 use page_worker::Clock;
 use path_normal::Authority;
 use robots_verdict::{Answer, Opening};

@@ -2,11 +2,13 @@
 //! write no line is answered.
 
 use super::{PAGES, demand};
-use command_server::{DeskKeeper, SessionFault, serve};
+use command_lines::SessionFault;
+use command_server::serve;
 use counted_io::FailAt;
 use gate_core::Limits;
 use gate_lock::{Gate, GateLock};
 use gate_settlement::{SettleFault, Visit, settle, with_gate};
+use keepers::DeskKeeper;
 use scripted_sites::{FixedClock, ScriptedSites, new_book};
 use std::alloc::Global;
 use std::random::RandomSource;

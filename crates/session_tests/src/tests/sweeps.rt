@@ -7,6 +7,7 @@ use super::{PAGES, demand};
 use client_connections::{Connections, Listener};
 use gate_core::{Book, Limits};
 use gate_lock::{Blanks, Gate, GateLock};
+use journal::Unrecorded;
 use keepers::Bounds;
 use line_server::{Alarm, Server};
 use page_worker::Clock;
@@ -70,7 +71,7 @@ fn serve_two<'x, G: Gate + Send + Sync, R: Threads + Wait + time::Clock + Sync>(
     requires book { (book.base ≡ empty_base) × (book.entries ≡ []) }
     requires blanks { blanks ≡ G.ledgers }
 {
-    let gate: GateLock<G> = GateLock::new(book, blanks);
+    let (gate, past) = GateLock::<G>::resume(alloc, book, blanks);
     let sites = ScriptedSites {
         alloc,
         pages: &PAGES,
@@ -93,7 +94,7 @@ fn serve_two<'x, G: Gate + Send + Sync, R: Threads + Wait + time::Clock + Sync>(
         ahead: None,
         bounds: Bounds::none(),
     };
-    match server.run(&gate) {
+    match server.run(&gate, past, &[], &Unrecorded) {
         Ok(served) => Ok(served.settled.events()),
         Err(fault) => Err(Fail::new(format_args!("{fault:?}"))),
     }

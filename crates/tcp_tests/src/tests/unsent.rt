@@ -37,7 +37,7 @@ fn failure_of<R: Net<Stream = TcpStream> + time::Clock>(
         whole,
     };
     let mut failure = None;
-    match TcpClient::new(rt, limits).fetch(alloc, &url, b"crawlgate", 9, &mut failure) {
+    match TcpClient::new(rt, limits).fetch(alloc, &url, "crawlgate", 9, &mut failure) {
         Err(WireFault::Device) => Ok(failure),
         _ => Ok(None),
     }

@@ -1,12 +1,15 @@
 //! Jobs by a clock that advances with each reading: the moments of their entries, and how often a robots.txt
 //! is fetched. RFC 9309, section 2.4.
 
-use crawl_workers::{Clock, Deadline, Failure, Fetcher, Job, PageLeave, RobotsLeave, work};
+use crawl_job::Job;
+use fetchers::{Fetcher, PageLeave, RobotsLeave};
 use gate_core::Limits;
 use gate_history::Entry;
 use gate_lock::{Gate, GateLock, Mark};
 use gate_settlement::{Visit, with_gate};
+use http_client::{Deadline, Failure};
 use http_wire::{HttpReply, WireFault};
+use page_worker::{Clock, work};
 use path_normal::{PageUrl, Schemes};
 use robots_text::Token;
 use scripted_sites::new_book;

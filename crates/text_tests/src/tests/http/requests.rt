@@ -45,7 +45,7 @@ fn writes(
     octets: usize,
 ) -> bool {
     let mut writer = FailAt::new(Vec::new(alloc), per_call.max(1), fails_at);
-    let written = write_get(&mut writer, page, b"crawlgate");
+    let written = write_get(&mut writer, page, "crawlgate");
     has_written(&writer, written, octets)
 }
 
@@ -66,7 +66,12 @@ fn a_long_agent_is_written_whole(rt: HostRuntime) -> Result<(), Fail> {
 
 fn writes_long(alloc: Global, page: &PageUrl) -> bool {
     let mut writer = FailAt::new(Vec::new(alloc), 1_000, None);
-    write_get(&mut writer, page, &[b'a'; 8_192]).is_ok() && has_ends(writer.bytes(), 8_192)
+    match std::str::from_utf8(&[b'a'; 8_192]) {
+        Ok(agent) => {
+            write_get(&mut writer, page, agent).is_ok() && has_ends(writer.bytes(), agent.len())
+        }
+        Err(_) => false,
+    }
 }
 
 // The octets start and end like the request, plus an agent of this length.

@@ -1,0 +1,217 @@
+//! The folder of a gate's journal, if any, and the gate's beginning: what an earlier process wrote, or
+//! nothing.
+//! docs/crawlgate.1.md has the options.
+ghost use Rattle.std.specs.Prelude.{IfOk};
+ghost use Rattle.gate_core.specs.Limits.{AreLimits};
+ghost use Rattle.gate_journal.specs.Resuming.{IsIdle};
+
+use counted_io::Counted;
+use gate_clock::{Beginning, SteadyClock};
+use gate_core::{Book, Limits};
+use gate_journal::{ResumeFault, Resumed, resume};
+use gate_lock::{Gate, Receipts};
+use journal::{Folder, Joined, JournalFault, LastFile, SyncPolicy};
+use path_normal::{Authority, Schemes};
+use program_arguments::JournalOptions;
+use program_commands::{
+    Ending, Reasoned, new_book, tell_bad_folder, tell_bad_journal, tell_begins_alone,
+    tell_clock_set_back, tell_few_slots, tell_full_journal, tell_short_journal, tell_torn_line,
+    tell_unread_journal,
+};
+use std::fs::File;
+use std::hash::RandomState;
+use std::io::ErrorKind;
+use std::sync::Wait;
+use std::{io, time};
+
+/// The locked folder of a journal, with its name, its sync policy, and how many octets it may have.
+#[derive(Drop)]
+pub(crate) struct OpenJournal<'a> {
+    pub(crate) name: &'a str,
+    pub(crate) folder: Folder<HostRuntime>,
+    pub(crate) sync: SyncPolicy,
+    pub(crate) room: Option<u64>,
+}
+
+/// A gate's beginning: its book, and the sites whose robots.txt files to fetch anew.
+#[derive(Drop)]
+pub(crate) struct JournalStart {
+    pub(crate) book: Book,
+    pub(crate) sites: Vec<Authority>,
+}
+
+/// The earlier receipts of a gate, and those sites.
+#[derive(Drop)]
+pub(crate) struct Past<G: Gate> {
+    pub(crate) receipts: Receipts<G>,
+    pub(crate) sites: Vec<Authority>,
+}
+
+/// Opens the folder that the options name, if any. Reports why it can't be a journal's.
+pub(crate) fn open_journal<'a>(
+    host: &HostRuntime,
+    options: &'a Option<JournalOptions>,
+) -> Result<Option<OpenJournal<'a>>, Ending> {
+    let Some(options) = options else {
+        return Ok(None);
+    };
+    let name = options.folder.as_str();
+    match Folder::open(*host, name) {
+        Ok(folder) => Ok(Some(OpenJournal {
+            name,
+            folder,
+            sync: options.sync,
+            room: options.room,
+        })),
+        Err(fault) => Err(tell_bad_folder(host, name, fault)),
+    }
+}
+
+/// A gate's beginning with these limits: the state of the journal's last file, whose text is ended; or
+/// nothing. Reports why it can't continue there.
+pub(crate) fn begin_with(
+    host: &HostRuntime,
+    limits: Limits,
+    journal: &Option<OpenJournal<'_>>,
+) -> Result<JournalStart, Ending>
+    requires { AreLimits limits }
+    ensures { IfOk result (λ begun. IsIdle begun.book) }
+{
+    let Some(journal) = journal else {
+        return begin_new(host, limits);
+    };
+    match journal.folder.last_file() {
+        Ok(Some(file)) => go_on_if_named(host, limits, file),
+        Ok(None) => begin_new(host, limits),
+        Err(fault) => Err(tell_bad_folder(host, journal.name, fault)),
+    }
+}
+
+fn begin_new(host: &HostRuntime, limits: Limits) -> Result<JournalStart, Ending>
+    requires { AreLimits limits }
+    ensures { IfOk result (λ begun. IsIdle begun.book) }
+{
+    match new_book(host, limits) {
+        Ok(book) => Ok(JournalStart {
+            book,
+            sites: Vec::new(host.alloc()),
+        }),
+        Err(ending) => Err(ending),
+    }
+}
+
+/// The clock of a gate that begins with this book. Reports a wall clock that was set back since the book's
+/// last moment.
+pub(crate) fn clock_of<'a, R: Wait + time::Clock>(
+    rt: &'a R,
+    host: &HostRuntime,
+    book: &Book,
+) -> SteadyClock<'a, R> {
+    let (clock, beginning) = SteadyClock::new(rt, book.base().moment());
+    if let Beginning::SetBack(seconds) = beginning {
+        tell_clock_set_back(host, seconds);
+    }
+    clock
+}
+
+// Goes on from a journal's last file if its name, and that of the file before, say what they begin with.
+fn go_on_if_named(
+    host: &HostRuntime,
+    limits: Limits,
+    file: LastFile,
+) -> Result<JournalStart, Ending>
+    requires { AreLimits limits }
+    ensures { IfOk result (λ begun. IsIdle begun.book) }
+{
+    match file.misnamed() {
+        Ok(None) => {}
+        Ok(Some(wrong)) => return Err(tell_bad_journal(host, wrong.path, wrong.line)),
+        Err(cause) => return Err(tell_unread_journal(host, Some(cause))),
+    }
+    if let Some(entries) = file.begins_alone() {
+        tell_begins_alone(host, file.path(), entries);
+    }
+    go_on(host, limits, file)
+}
+
+// Reads a journal's last file behind the one before it, and ends its text.
+fn go_on(host: &HostRuntime, limits: Limits, file: LastFile) -> Result<JournalStart, Ending>
+    requires { AreLimits limits }
+    ensures { IfOk result (λ begun. IsIdle begun.book) }
+{
+    let Ok(keys) = RandomState::new(host) else {
+        return Err(Ending::Device);
+    };
+    let mut text = file.text();
+    let mut reader = Counted::new(Reasoned::new(&mut text));
+    let resumed = resume(
+        host.alloc(),
+        keys,
+        Schemes::HttpAndHttps,
+        limits,
+        &mut reader,
+    );
+    let reason = reader.into_inner().reason;
+    match resumed {
+        Ok(resumed) => match text.in_last(resumed.whole) {
+            Some(whole) => end_file(host, file, resumed, whole),
+            // The last file has no whole line.
+            None => Err(tell_short_journal(host, file.path(), 1)),
+        },
+        Err(fault) => Err(tell_fault(host, &file, &text, fault, reason)),
+    }
+}
+
+// Ends the text of a journal's last file after so many octets, from which the gate continues.
+fn end_file(
+    host: &HostRuntime,
+    file: LastFile,
+    resumed: Resumed,
+    whole: u64,
+) -> Result<JournalStart, Ending>
+    requires { IsIdle resumed.book }
+    ensures { IfOk result (λ begun. IsIdle begun.book) }
+{
+    let Resumed {
+        book,
+        whole: _,
+        ending,
+        begun,
+    } = resumed;
+    if let Ok(about) = file.file().metadata() {
+        let torn = about.len().saturating_sub(whole);
+        if torn > 0 {
+            tell_torn_line(host, file.path(), torn);
+        }
+    }
+    match file.end(whole, ending.as_slice()) {
+        Ok(()) => Ok(JournalStart { book, sites: begun }),
+        Err(JournalFault::Device(cause)) => Err(tell_unread_journal(host, cause)),
+        Err(_) => Err(Ending::NoMemory),
+    }
+}
+
+// Reports why no gate can continue from a file and the one before it.
+fn tell_fault(
+    host: &HostRuntime,
+    file: &LastFile,
+    text: &Joined<&File, &File>,
+    fault: ResumeFault,
+    reason: Option<ErrorKind>,
+) -> Ending {
+    match fault {
+        ResumeFault::BadLine(line) => {
+            let wrong = file.line_of(text.line(line));
+            tell_bad_journal(host, wrong.path, wrong.line)
+        }
+        ResumeFault::NoEntries(line) => {
+            let short = file.line_of(text.line(line));
+            tell_short_journal(host, short.path, short.line)
+        }
+        ResumeFault::NoRoom(_) => tell_full_journal(host, file.path()),
+        ResumeFault::Starts => tell_full_journal(host, file.path()),
+        ResumeFault::Slots => tell_few_slots(host, file.path()),
+        ResumeFault::Read => tell_unread_journal(host, reason.map(io::Error::from)),
+        ResumeFault::NoMemory => Ending::NoMemory,
+    }
+}

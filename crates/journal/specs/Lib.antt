@@ -1,0 +1,12 @@
+-- The definitions for contracts, one concept a file.
+-- `crates/journal/src` has the code.
+pub mod Behind
+pub mod Crash
+pub mod Heads
+pub mod Joining
+pub mod Journal
+pub mod Parts
+pub mod Rooms
+pub mod Shelves
+pub mod Taped
+pub mod Writing

@@ -1,0 +1,55 @@
+-- A journal's writer in contracts, and what it does.
+-- Used by `Writer`.
+use Rattle.std.specs.Prelude.{◌≡◌, ◌⊎◌, ℕ, List, [], Bool, true, false}
+use Rattle.journal.specs.Crash.{HasKept}
+use Rattle.journal.specs.Journal.{Noted, Writes}
+use Rattle.journal.specs.declared.chronicle.Rest.{Rest}
+use Rattle.journal.specs.declared.chronicle.Rest.TheVariants.{Nothing, Part, Last}
+use Rattle.journal.specs.declared.position.JournalPosition.{JournalPosition}
+use Rattle.journal.specs.declared.rotation.Turned.{Turned}
+use Rattle.journal.specs.declared.rotation.Turned.TheVariants as turned
+use Rattle.journal.specs.Shelves.{HasHead}
+
+-- the tape of the last file, and where its text ends
+pub record Written : Type 0 where
+  pub noted : Noted
+  pub place : JournalPosition
+
+-- a text of this kind was appended; if asked, a crash keeps it all
+pub record WritesText (Kind : List ℕ → Type 0) (old new : Written) (always : Bool) : Type 0 where
+  pub text : List ℕ
+  pub is_kind : Kind text
+  pub writes : Writes old.noted new.noted text
+  pub kept : always ≡ true → HasKept new.noted.written new.noted.kept
+
+-- what follows the place was written, up to the new place
+abbrev pub ComesUpTo : (JournalPosition → List ℕ → JournalPosition → Type 0) → Written → Written → Bool → Type 0
+ComesUpTo follows old new always = WritesText (λ text. follows old.place text new.place) old new always
+
+-- a file was begun with such a text, which a crash keeps
+pub record Begins (begins : List ℕ → JournalPosition → Type 0) (new : Written) : Type 0 where
+  pub head : List ℕ
+  pub is_head : begins head new.place
+  pub has : HasHead new.noted.written new.noted.kept head
+  pub works : new.noted.failed ≡ false
+
+-- such a text ended the last file, and the next one was begun
+pub record TurnsOver (Ends : List ℕ → Type 0) (begins : List ℕ → JournalPosition → Type 0)
+    (old new : Written) : Type 0 where
+  pub ended : Written
+  pub ends : WritesText Ends old ended true
+  pub next : Begins begins new
+
+-- what a file lacks of what was sealed: nothing, since nothing was; or some entries' text, and its end; or the text
+-- that ends it
+abbrev pub IsRest : (List ℕ → JournalPosition → Type 0) → (List ℕ → Type 0) → Type 0 → Rest → Type 0
+IsRest parts Ends NothingSealed (Nothing memory) = NothingSealed × (memory.items ≡ [])
+IsRest parts Ends NothingSealed (Part text place) = parts text.items place
+IsRest parts Ends NothingSealed (Last text) = Ends text.items
+
+-- some of what was sealed was written; or a file was turned over; or nothing was sealed, and nothing changed
+abbrev pub Turns : (List ℕ → JournalPosition → Type 0) → (List ℕ → Type 0) → Type 0
+    → (List ℕ → JournalPosition → Type 0) → Written → Written → Turned → Type 0
+Turns parts Ends NothingSealed begins old new turned.Part = WritesText (λ text. parts text new.place) old new false
+Turns parts Ends NothingSealed begins old new turned.Done =
+    TurnsOver Ends begins old new ⊎ (NothingSealed × (new ≡ old))

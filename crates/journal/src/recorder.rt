@@ -1,0 +1,110 @@
+//! Recording before replying: a chronicle and its journal, which records before each write.
+//! A server has one for each client's stream, and one for its fetcher.
+ghost use Rattle.std.specs.Prelude.{⊤};
+
+use crate::behind::ComesUp;
+use crate::chronicle::{Chronicle, Sealer};
+use crate::group::GroupJournal;
+use crate::shelf::Shelf;
+use counted_io::DeviceFault;
+use std::sync::Wait;
+
+/// Records a chronicle, or does nothing.
+pub trait Recorder {
+    /// Waits until all entries may be sent.
+    fn come_up<H: Chronicle, R: Wait>(&self, rt: &R, chronicle: &H) -> Result<(), DeviceFault>;
+
+    /// Seals, and begins a new file.
+    fn seal<H: Chronicle, R: Wait, K: Sealer>(
+        &self,
+        rt: &R,
+        chronicle: &H,
+        sealer: &mut K,
+    ) -> K::Sealed
+        ensures { K.seals sealer.old result sealer.new };
+
+    /// Whether entries may come: the records may grow. It waits for nothing.
+    fn has_room(&self) -> bool;
+
+    /// Whether to seal and begin a new file.
+    fn is_due<H: Chronicle, R: Wait>(&self, rt: &R, chronicle: &H) -> bool;
+
+    /// Records all, and syncs it if the policy is `Second`. Fails if the place of the records is no longer
+    /// there. To be called once a second.
+    fn see_to<H: Chronicle, R: Wait>(&self, rt: &R, chronicle: &H) -> Result<(), DeviceFault>;
+}
+
+/// Records nothing: all may be sent at once.
+#[derive(Clone, Copy, Debug)]
+pub struct Unrecorded;
+
+impl Recorder for Unrecorded {
+    fn come_up<H: Chronicle, R: Wait>(&self, _rt: &R, _chronicle: &H) -> Result<(), DeviceFault> {
+        Ok(())
+    }
+
+    fn seal<H: Chronicle, R: Wait, K: Sealer>(
+        &self,
+        _rt: &R,
+        _chronicle: &H,
+        sealer: &mut K,
+    ) -> K::Sealed {
+        sealer.seal()
+    }
+
+    fn has_room(&self) -> bool {
+        true
+    }
+
+    fn is_due<H: Chronicle, R: Wait>(&self, _rt: &R, _chronicle: &H) -> bool {
+        false
+    }
+
+    fn see_to<H: Chronicle, R: Wait>(&self, _rt: &R, _chronicle: &H) -> Result<(), DeviceFault> {
+        Ok(())
+    }
+}
+
+impl<S: Shelf + Drop> Recorder for GroupJournal<S> {
+    fn come_up<H: Chronicle, R: Wait>(&self, rt: &R, chronicle: &H) -> Result<(), DeviceFault> {
+        GroupJournal::come_up(self, rt, chronicle)
+    }
+
+    fn seal<H: Chronicle, R: Wait, K: Sealer>(
+        &self,
+        rt: &R,
+        chronicle: &H,
+        sealer: &mut K,
+    ) -> K::Sealed {
+        self.rotate(rt, chronicle, sealer)
+    }
+
+    fn has_room(&self) -> bool {
+        GroupJournal::has_room(self)
+    }
+
+    fn is_due<H: Chronicle, R: Wait>(&self, rt: &R, chronicle: &H) -> bool {
+        GroupJournal::is_due(self, rt, chronicle)
+    }
+
+    fn see_to<H: Chronicle, R: Wait>(&self, rt: &R, chronicle: &H) -> Result<(), DeviceFault> {
+        GroupJournal::come_up(self, rt, chronicle)?;
+        self.tend(rt)
+    }
+}
+
+/// A chronicle and its recorder.
+#[derive(Drop)]
+pub struct Abreast<'a, H: Chronicle, J: Recorder, R: Wait> {
+    pub rt: &'a R,
+    pub chronicle: &'a H,
+    pub journal: &'a J,
+}
+
+impl<'a, H: Chronicle, J: Recorder, R: Wait> ComesUp for Abreast<'a, H, J, R> {
+    ghost comes = { λ _ _ _. ⊤ };
+
+    fn come_up(&self, _number: u64) -> Result<(), DeviceFault> {
+        self.journal.come_up(self.rt, self.chronicle)
+    }
+}

@@ -1,0 +1,241 @@
+//! Writes a journal: formats what the files lack, and writes that.
+//! One thread has it at a time; `GroupJournal` passes it on.
+ghost use Rattle.std.specs.Prelude.{◌≡◌, ◌≢◌, [], IfOk, OnOk, false, true};
+ghost use Rattle.journal.specs.Crash.{HasKept};
+ghost use Rattle.journal.specs.Journal.{Writes};
+ghost use Rattle.journal.specs.declared.policy.SyncPolicy.TheVariants as SyncPolicy;
+ghost use Rattle.journal.specs.Writing.{Begins, ComesUpTo, IsRest, WritesText};
+
+use crate::chronicle::{Chronicle, Rest, Sealer, Spelled};
+use crate::fault::JournalFault;
+use crate::files_room::FilesRoom;
+use crate::group::FILE_OCTETS;
+use crate::journal::Journal;
+use crate::policy::SyncPolicy;
+use crate::position::JournalPosition;
+use crate::shelf::{BegunFile, Shelf};
+use crate::tape::Tape;
+use counted_io::Output;
+use std::alloc::Global;
+use std::marker::Model;
+use std::mem;
+
+// The last file, the end of its text, and its octets, now and at its beginning; the memory for texts of
+// entries; and the room for all files.
+#[derive(Drop)]
+pub(crate) struct Writer<S: Shelf> {
+    alloc: Global,
+    output: Output,
+    memory: Vec<u8>,
+    shelf: S,
+    journal: Journal<S::Tape>,
+    place: JournalPosition,
+    octets: u64,
+    head: u64,
+    room: FilesRoom,
+}
+
+impl<S: Shelf> Model for Writer<S> {
+    ghost use Rattle.std.specs.Prelude.{◌≡◌, []};
+    ghost use Rattle.journal.specs.Writing.{Written};
+
+    ghost Value = { Written };
+
+    ghost view = { λ w. record { noted = w.journal; place = w.place } };
+
+    ghost invariant = { λ w. (w.output ≡ []) × (w.memory.items ≡ []) };
+}
+
+impl<S: Shelf> Writer<S> {
+    // Creates a first file. All files may have so many octets, if that is limited.
+    pub fn new<H: Chronicle>(
+        alloc: Global,
+        chronicle: &H,
+        shelf: S,
+        limit: Option<u64>,
+    ) -> Result<Writer<S>, JournalFault>
+    where
+        S: Drop,
+        ensures { IfOk result (λ writer. Begins (H.begins chronicle.now) writer) }
+    {
+        let mut shelf = shelf;
+        let mut output = Output::new(alloc)?;
+        let memory = chronicle.room()?;
+        let BegunFile {
+            tape,
+            place,
+            octets,
+        } = shelf.put_up(chronicle, &mut output)?;
+        let mut room = FilesRoom::new(limit);
+        if room.is_limited() {
+            room.set(shelf.octets()?);
+        }
+        Ok(Writer {
+            alloc,
+            output,
+            memory,
+            shelf,
+            journal: Journal::new(tape),
+            place,
+            octets,
+            head: octets,
+            room,
+        })
+    }
+
+    pub fn place(&self) -> JournalPosition
+        ensures { result ≡ self.now.place }
+    {
+        self.place
+    }
+
+    pub fn is_long(&self) -> bool {
+        let own = self.octets.saturating_sub(self.head);
+        own > FILE_OCTETS && own > self.head
+    }
+
+    // Looks whether the files' place is still there. With the policy `Second`, waits until a crash keeps all
+    // that was written.
+    pub fn tend(&mut self, policy: SyncPolicy) -> Result<(), JournalFault>
+        ensures kept { OnOk result (policy ≡ SyncPolicy.Second
+            → HasKept self.new.noted.written self.new.noted.kept) }
+        ensures same { OnOk result (policy ≡ SyncPolicy.Second
+            → Writes self.old.noted self.new.noted []) }
+        ensures idle { policy ≢ SyncPolicy.Second → self.new ≡ self.old }
+        ensures place { self.new.place ≡ self.old.place }
+    {
+        self.shelf.look()?;
+        self.look_for_room();
+        match policy {
+            SyncPolicy::Second => self.sync(),
+            SyncPolicy::Always | SyncPolicy::Never => Ok(()),
+        }
+    }
+
+    // Whether entries may come.
+    pub fn has_room(&self) -> bool {
+        self.room.is_left()
+    }
+
+    // Where there was no room, counts anew: old files may have been moved away.
+    fn look_for_room(&mut self)
+        ensures { self.new ≡ self.old }
+    {
+        if self.room.is_left() {
+            return;
+        }
+        if let Ok(octets) = self.shelf.octets() {
+            self.room.set(octets);
+        }
+    }
+
+    // Formats and writes the next piece of what is missing.
+    pub fn come_up<H: Chronicle>(&mut self, chronicle: &H, always: bool) -> Result<(), JournalFault>
+        ensures { OnOk result (ComesUpTo (H.follows chronicle.now) self.old self.new always) }
+    {
+        let (text, place) = self.spell(chronicle)?;
+        self.write(text.as_slice(), always)?;
+        self.place = place;
+        self.give_back(text);
+        Ok(())
+    }
+
+    // Takes back the memory of a text for the next one.
+    pub fn give_back(&mut self, memory: Vec<u8>)
+        ensures { self.new ≡ self.old }
+    {
+        let mut memory = memory;
+        memory.clear();
+        self.memory = memory;
+    }
+
+    // The memory for a text.
+    fn take_memory(&mut self) -> Vec<u8>
+        ensures empty { result.items ≡ [] }
+        ensures same { self.new ≡ self.old }
+    {
+        mem::replace(&mut self.memory, Vec::new(self.alloc))
+    }
+
+    // Waits until a crash keeps all that was written.
+    pub fn sync(&mut self) -> Result<(), JournalFault>
+        ensures kept { OnOk result (HasKept self.new.noted.written self.new.noted.kept) }
+        ensures same { OnOk result (Writes self.old.noted self.new.noted []) }
+        ensures place { self.new.place ≡ self.old.place }
+    {
+        self.write(&[], true)
+    }
+
+    // Writes some entries of what was sealed.
+    pub fn write_part(&mut self, text: &[u8], place: JournalPosition) -> Result<(), JournalFault>
+        ensures writes { OnOk result (WritesText (λ t. t ≡ text.now) self.old self.new false) }
+        ensures place { OnOk result (self.new.place ≡ place) }
+    {
+        self.write(text, false)?;
+        self.place = place;
+        Ok(())
+    }
+
+    // Writes the end of the file, and syncs it.
+    pub fn end_file(&mut self, rest: &[u8]) -> Result<(), JournalFault>
+        ensures { OnOk result (WritesText (λ text. text ≡ rest.now) self.old self.new true) }
+    {
+        self.write(rest, true)
+    }
+
+    pub fn begin_file<H: Chronicle>(&mut self, chronicle: &H) -> Result<(), JournalFault>
+        ensures { OnOk result (Begins (H.begins chronicle.now) self.new) }
+    {
+        let BegunFile {
+            tape,
+            place,
+            octets,
+        } = self.shelf.put_up(chronicle, &mut self.output)?;
+        self.journal = Journal::new(tape);
+        self.place = place;
+        self.head = octets;
+        self.octets = octets;
+        self.room.add(octets);
+        Ok(())
+    }
+
+    // The text of the next piece of what is missing.
+    fn spell<H: Chronicle>(&mut self, chronicle: &H) -> Result<Spelled, JournalFault>
+        ensures follows { IfOk result (λ text.
+            H.follows chronicle.now self.old.place text.0.items text.1) }
+        ensures same { self.new ≡ self.old }
+    {
+        let memory = self.take_memory();
+        chronicle.follow(&mut self.output, self.place, memory)
+    }
+
+    // The next text of what the file lacks of what was sealed.
+    pub fn rest<K: Sealer>(&mut self, sealed: &K::Sealed) -> Result<Rest, JournalFault>
+        ensures rest { IfOk result (IsRest (K.parts sealed.now self.old.place)
+            (K.ends sealed.now self.old.place) (K.nothing sealed.now)) }
+        ensures same { self.new ≡ self.old }
+    {
+        let memory = self.take_memory();
+        K::rest(sealed, &mut self.output, self.place, memory)
+    }
+
+    // Appends a text, and syncs it if asked.
+    fn write(&mut self, text: &[u8], always: bool) -> Result<(), JournalFault>
+        ensures writes { OnOk result (Writes self.old.noted self.new.noted text.now) }
+        ensures kept { OnOk result (always ≡ true
+            → HasKept self.new.noted.written self.new.noted.kept) }
+        ensures place { self.new.place ≡ self.old.place }
+    {
+        let result = if always {
+            self.journal.commit(text)
+        } else {
+            self.journal.write(text)
+        };
+        if result.is_err() {
+            return Err(JournalFault::Device(self.journal.tape().cause()));
+        }
+        self.octets = self.octets.saturating_add(text.len() as u64);
+        self.room.add(text.len() as u64);
+        Ok(())
+    }
+}

@@ -1,2 +1,0 @@
--- The lemmas of the proofs.
--- The proof files of this crate cite them.
