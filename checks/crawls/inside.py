@@ -9,6 +9,7 @@ import shutil
 import socket
 import subprocess
 import sys
+import time
 import types
 
 sys.dont_write_bytecode = True
@@ -39,6 +40,20 @@ def network():
     for it in [*INNER, PUBLIC]:
         family = "-6" if ":" in it else "-4"
         subprocess.run(["ip", family, "route", "add", "local", it, "dev", "lo"], check=True)
+    for it in [*OWN, "2606:4700::2222"]:
+        wait_for(it)
+
+
+def wait_for(address):
+    """Waits until this network has an address that was added: of IPv6 that is done by a thread of the system."""
+    family = socket.AF_INET6 if ":" in address else socket.AF_INET
+    for _ in range(500):
+        with socket.socket(family, socket.SOCK_STREAM) as it:
+            try:
+                it.bind((address, 0))
+                return
+            except OSError:
+                time.sleep(0.02)
 
 
 async def be_led(site, writer, target):
