@@ -5,11 +5,11 @@ ghost use Rattle.std.specs.Io.KnownBytes.{ReadConsumes, WriteAppends};
 ghost use Rattle.client_connections.specs.Waiting.{ReadWaits, WaitsOn};
 
 use crate::waiting::Waiting;
-use http_client::Waits;
 use std::cell::Cell;
 use std::io::{ErrorKind, Read, Write};
 use std::time::{Duration, Instant};
 use std::{io, time};
+use stream_waits::Waits;
 
 // How often a read or write is tried that a signal interrupts, or that has nothing yet. The longest
 // patience takes 300 tries.

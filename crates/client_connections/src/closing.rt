@@ -7,11 +7,11 @@ ghost use Rattle.std.specs.Io.KnownBytes.{ConsumesCount};
 ghost use Rattle.client_connections.specs.Closing.{TakesFew, closing_seconds};
 ghost use Rattle.client_connections.specs.Waiting.{nanoseconds};
 
-use http_client::{Deadline, Waits};
 use std::io::ErrorKind;
 use std::net::{Shutdown, TcpStream};
 use std::time::Duration;
 use std::{io, time};
+use stream_waits::{Deadline, Waits};
 
 /// The most seconds for which a closing connection is read.
 pub const CLOSING_SECONDS: u64 = 1;

@@ -12,12 +12,12 @@ use crate::at_hand::AtHand;
 use crate::client_stream::ClientStream;
 use crate::together::{begins_fetch, line_len, plain_len};
 use crate::waiting::Waiting;
-use http_client::Waits;
 use std::alloc::Global;
 use std::cell::Cell;
 use std::io::{BufRead, BufReader, Read, Write};
 use std::time::{Duration, Instant};
 use std::{io, time};
+use stream_waits::Waits;
 
 /// The most seconds of fetches for lines sent ahead that a server may allow.
 pub const AHEAD_SECONDS: u64 = 3_600;

@@ -7,10 +7,10 @@ ghost use Rattle.client_connections.specs.Waiting.{CountsSilence, IsNew, nanosec
 
 use crate::client_stream::has_line_end;
 use crate::waiting::Waiting;
-use http_client::Waits;
 use std::io::{ErrorKind, Read, Write};
 use std::time::{Duration, Instant};
 use std::{io, time};
+use stream_waits::Waits;
 
 /// The most seconds that reads wait for a client between two line ends while another one waits for its
 /// place.

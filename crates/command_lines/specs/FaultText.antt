@@ -5,6 +5,8 @@ use Rattle.crawl_job.specs.declared.hop.Refusal.TheVariants as refusals
 use Rattle.command_lines.specs.declared.fault.LineFault.{LineFault}
 use Rattle.command_lines.specs.declared.fault.LineFault.TheVariants as faults
 use Rattle.command_lines.specs.RefusalText.{error_of, refusal_word}
+use Rattle.path_normal.specs.Messages.{url_fault_words}
+use Rattle.path_normal.specs.declared.fault.UrlFault.TheVariants as urls
 
 -- the words of a fault
 abbrev pub fault_words : LineFault → List ℕ
@@ -17,10 +19,10 @@ fault_words faults.Verb = codes "verb"
 fault_words faults.Number = codes "number"
 fault_words faults.Token = codes "token"
 fault_words faults.Authority = codes "authority"
-fault_words faults.BadUrl = codes "url bad"
-fault_words faults.NotHttp = codes "url scheme"
-fault_words faults.HasUser = codes "url user"
-fault_words faults.LongUrl = codes "url long"
+fault_words faults.BadUrl = url_fault_words urls.BadUrl
+fault_words faults.NotHttp = url_fault_words urls.NotHttp
+fault_words faults.HasUser = url_fault_words urls.HasUser
+fault_words faults.LongUrl = url_fault_words urls.TooLong
 fault_words faults.Status = codes "status"
 fault_words faults.Replies = codes "replies"
 fault_words faults.Memory = refusal_word refusals.NoMemory

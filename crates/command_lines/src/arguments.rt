@@ -32,7 +32,7 @@ pub fn read_token(alloc: Global, word: &str, last: &LastToken) -> Result<Token, 
 pub fn read_authority(alloc: Global, schemes: Schemes, word: &str) -> Result<Authority, LineFault>
     ensures { IsRead result (authority_word schemes word.now) }
 {
-    let authority = Authority::new_among(alloc, schemes, word)?;
+    let authority = schemes.parse_authority(alloc, word)?;
     Ok(authority)
 }
 
@@ -40,7 +40,7 @@ pub fn read_authority(alloc: Global, schemes: Schemes, word: &str) -> Result<Aut
 pub fn read_page(alloc: Global, schemes: Schemes, word: &str) -> Result<PageUrl, LineFault>
     ensures { IsRead result (page_word schemes word.now) }
 {
-    let url = PageUrl::parse_among(alloc, schemes, word)?;
+    let url = schemes.parse_page(alloc, word)?;
     Ok(url)
 }
 

@@ -50,10 +50,8 @@ impl Answerer<Book> for BookLines {
         output: &mut Output,
         sink: &mut W,
     ) -> Result<Flow, DeviceFault> {
-        let known = Known {
-            pages: &*book,
-            last: &self.last,
-        };
+        let (pages, last) = (&*book, &self.last);
+        let known = Known { pages, last };
         match read_command(alloc, self.schemes, Dialogue::Replay, line, &known) {
             Ok(Command::Call(call)) => {
                 answer_call(book, call, output, sink)?;
@@ -72,23 +70,13 @@ impl Answerer<Book> for BookLines {
                 answer_seal(book, output, sink)?;
                 Ok(Flow::Goes)
             }
-            Ok(Command::Refresh { .. }) => {
-                push_fault(LineFault::Verb, output, sink)?;
-                Ok(Flow::Goes)
-            }
-            Ok(Command::Fetch(_)) => {
-                push_fault(LineFault::Verb, output, sink)?;
-                Ok(Flow::Goes)
-            }
-            Ok(Command::Url(_)) => {
-                push_fault(LineFault::Verb, output, sink)?;
-                Ok(Flow::Goes)
-            }
-            Ok(Command::Info) => {
-                push_fault(LineFault::Verb, output, sink)?;
-                Ok(Flow::Goes)
-            }
-            Ok(Command::Why { .. }) => {
+            Ok(
+                Command::Refresh { .. }
+                | Command::Fetch(_)
+                | Command::Url(_)
+                | Command::Info
+                | Command::Why { .. },
+            ) => {
                 push_fault(LineFault::Verb, output, sink)?;
                 Ok(Flow::Goes)
             }

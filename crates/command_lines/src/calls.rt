@@ -3,7 +3,7 @@
 ghost use Rattle.std.specs.Prelude.{◌≡◌, ◌∷◌, [], IfOk, IsTrue};
 ghost use Rattle.gate_core.specs.Calls.{HasSpare};
 ghost use Rattle.path_normal.specs.Capacity.{IsRead};
-ghost use Rattle.command_lines.specs.CallOf.{arrive_of, authority_alone, job_words_of, permit_alone};
+ghost use Rattle.command_lines.specs.CallOf.{arrive_of, authority_alone, begin_of, job_words_of, permit_alone};
 ghost use Rattle.command_lines.specs.CallOf.{page_alone, start_of, takes};
 ghost use Rattle.line_text.specs.Words.{words_left};
 
@@ -91,6 +91,21 @@ pub fn read_job_of(
     let token = read_token(alloc, token, last)?;
     let url = read_page(alloc, schemes, url)?;
     Ok(Job { token, url })
+}
+
+/// Reads the argument of `BEGIN`: `<authority>`.
+pub fn read_begin(
+    alloc: Global,
+    schemes: Schemes,
+    moment: u64,
+    words: LineWords<'_, '_>,
+) -> Result<Call, LineFault>
+    requires { IsTrue (takes Verb.Begin words) }
+    ensures read { IsRead result (begin_of schemes moment words.entry) }
+    ensures spare { IfOk result HasSpare }
+{
+    let authority = read_authority_alone(alloc, schemes, words)?;
+    Ok(Call::Begin { authority, moment })
 }
 
 /// Reads `START <n> <token> <url>`, usually with the URL of the permit.

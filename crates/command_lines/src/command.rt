@@ -8,8 +8,8 @@ ghost use Rattle.command_lines.specs.CallOf.{has_line_octets, takes, timed_words
 
 use crate::arrival::Arrival;
 use crate::calls::{
-    read_arrive, read_authority_alone, read_job_words, read_page_alone, read_permit_alone,
-    read_start,
+    read_arrive, read_authority_alone, read_begin, read_job_words, read_page_alone,
+    read_permit_alone, read_start,
 };
 use crate::fault::LineFault;
 use crate::known_pages::{Known, KnownPages, NoPages};
@@ -156,29 +156,22 @@ fn read_arguments<'a, P: KnownPages>(
     ensures spare { IfOk result CanBeMade }
 {
     Ok(Command::Call(match verb {
-        Verb::Begin => {
-            let authority = read_authority_alone(alloc, schemes, words)?;
-            Call::Begin { authority, moment }
+        Verb::Begin => read_begin(alloc, schemes, moment, words)?,
+        Verb::Arrive => {
+            let arrival = read_arrive(alloc, schemes, moment, words.left())?;
+            return Ok(Command::Arrive(arrival));
         }
-        Verb::Arrive => return Ok(Command::Arrive(read_arrive(
-            alloc,
-            schemes,
-            moment,
-            words.left(),
-        )?)),
         Verb::Ask => {
             let Job { token, url } = read_job_words(alloc, schemes, words, known.last)?;
             Call::Ask { token, url, moment }
         }
         Verb::Start => read_start(alloc, schemes, moment, words, known)?,
-        Verb::Back => {
-            let number = read_permit_alone(words)?;
-            Call::Back { number }
-        }
-        Verb::Done => {
-            let number = read_permit_alone(words)?;
-            Call::Finish { number }
-        }
+        Verb::Back => Call::Back {
+            number: read_permit_alone(words)?,
+        },
+        Verb::Done => Call::Finish {
+            number: read_permit_alone(words)?,
+        },
         Verb::State => {
             let authority = read_authority_alone(alloc, schemes, words)?;
             return Ok(Command::State { authority, moment });

@@ -103,7 +103,7 @@ impl From<UrlFault> for LineFault {
 
 impl LineFault {
     /// The words after `ERR` in the reply line.
-    pub(crate) fn words(self) -> &'static str
+    pub fn words(self) -> &'static str
         ensures { result.now ≡ fault_words self }
     {
         match self {
@@ -116,10 +116,10 @@ impl LineFault {
             LineFault::Number => "number",
             LineFault::Token => "token",
             LineFault::Authority => "authority",
-            LineFault::BadUrl => "url bad",
-            LineFault::NotHttp => "url scheme",
-            LineFault::HasUser => "url user",
-            LineFault::LongUrl => "url long",
+            LineFault::BadUrl => UrlFault::BadUrl.words(),
+            LineFault::NotHttp => UrlFault::NotHttp.words(),
+            LineFault::HasUser => UrlFault::HasUser.words(),
+            LineFault::LongUrl => UrlFault::TooLong.words(),
             LineFault::Status => "status",
             LineFault::Replies => "replies",
             LineFault::Memory => refusal_word(Refusal::NoMemory),

@@ -2,7 +2,7 @@
 //! Used by `serve` for a session.
 ghost use Rattle.std.specs.Prelude.{◌≡◌, ◌||◌};
 ghost use Rattle.command_lines.specs.Answers.{ends_session};
-ghost use Rattle.command_server.specs.Clients.{DoesCall, DoesRequest, is_farewell};
+ghost use Rattle.command_server.specs.Clients.{DoesCall, DoesRequest, fetched, is_farewell, refreshed};
 ghost use Rattle.command_server.specs.FirstLines.{is_turned_away};
 
 use crate::client_reply::ClientReply;
@@ -12,8 +12,8 @@ use crate::numbered_clock::{FetchClock, NumberedClock, next_reading};
 use crate::visits::Visits;
 use command_lines::{Answerer, Command, Flow, Known, LineFault, Speaker, read_command};
 use counted_io::{DeviceFault, Output, Sink};
-use crawl_job::Job;
-use gate_core::Call;
+use crawl_job::Outcome;
+use gate_core::{BeginRefusal, Call, NoMemory, Standing};
 use keepers::Keeper;
 use path_normal::Authority;
 use robots_text::LastToken;
@@ -73,9 +73,8 @@ impl<C: NumberedClock> ClientLines<'_, C> {
         ensures { DoesRequest K.deals self.now.speaker
             (C.reads self.now.clock.now) number keeper.old line.now result keeper.new }
     {
-        let dialogue = self
-            .speaker
-            .dialogue(self.clock.read(number), keeper.can_fetch());
+        let moment = self.clock.read(number);
+        let dialogue = self.speaker.dialogue(moment, keeper.can_fetch());
         let clock = &FetchClock {
             clock: self.clock,
             number: next_reading(number),
@@ -93,17 +92,10 @@ impl<C: NumberedClock> ClientLines<'_, C> {
             }
             Ok(Command::Seal) => ClientReply::Sealed(keeper.seal()),
             Ok(Command::Refresh { authority }) => {
-                match keeper.refresh(alloc, &authority, clock) {
-                    Some(result) => ClientReply::Refreshed { authority, result },
-                    None => ClientReply::Fault(LineFault::Verb),
-                }
+                let result = keeper.refresh(alloc, &authority, clock);
+                told_of_refresh(authority, result)
             }
-            Ok(Command::Fetch(job)) => match keeper.fetch(alloc, job, clock) {
-                Some(Ok(outcome)) => ClientReply::Fetched(outcome),
-                Some(Err(_)) => ClientReply::NoMemory,
-                None => ClientReply::Fault(LineFault::Verb),
-            },
-            // Needs no keeper.
+            Ok(Command::Fetch(job)) => told_of_fetch(keeper.fetch(alloc, job, clock)),
             Ok(Command::Url(url)) => ClientReply::Written(url),
             Ok(Command::Info) => ClientReply::Counted {
                 counts: keeper.counts(),
@@ -132,6 +124,29 @@ fn flow_behind(first: FirstLine, number: u64, line: &[u8], told: &ClientReply) -
         Flow::Ends
     } else {
         told.flow()
+    }
+}
+
+// Without a result the keeper fetches nothing, so it does not know the verb.
+fn told_of_refresh(
+    authority: Authority,
+    standing: Option<Result<Standing, BeginRefusal>>,
+) -> ClientReply
+    ensures { result ≡ refreshed authority standing }
+{
+    match standing {
+        Some(result) => ClientReply::Refreshed { authority, result },
+        None => ClientReply::Fault(LineFault::Verb),
+    }
+}
+
+fn told_of_fetch(outcome: Option<Result<Outcome, NoMemory>>) -> ClientReply
+    ensures { result ≡ fetched outcome }
+{
+    match outcome {
+        Some(Ok(outcome)) => ClientReply::Fetched(outcome),
+        Some(Err(_)) => ClientReply::NoMemory,
+        None => ClientReply::Fault(LineFault::Verb),
     }
 }
 

@@ -90,13 +90,13 @@ impl ClientReply {
             (client_reply_text self.now) result }
     {
         self.push(output, sink)?;
-        if self.was_fetched() {
+        if self.is_of_a_fetch() {
             output.flush(sink)?;
         }
         Ok(())
     }
 
-    fn was_fetched(&self) -> bool {
+    fn is_of_a_fetch(&self) -> bool {
         matches!(
             self,
             ClientReply::Refreshed { .. } | ClientReply::Fetched(_)

@@ -1,10 +1,10 @@
 -- Octets that pass through a buffer to a sink.
 -- Used by `Output`, and by all that writes through it.
-use Rattle.std.proofs.Common.{◌≡◌, ℕ, ◌+◌, List, [], ◌++◌, None, Some, sym, ap, subst, ◌∙◌, append_assoc, append-nil, length, take, min, arith}
+use Rattle.std.proofs.Common.{◌≡◌, ℕ, ◌+◌, List, [], ◌++◌, sym, ap, subst, ◌∙◌, append_assoc, append-nil, length, take, min, arith}
 use Rattle.std.specs.Prelude.{Option, Result, Ok, Err, OnErr}
 use Rattle.std.proofs.lemmas.Grind.{common_steps}
 use Rattle.std.proofs.Math.Seq.{take-append-add}
-use Rattle.std.specs.Io.KnownBytes.{Appends, append_known}
+use Rattle.std.specs.Io.KnownBytes.{Appends}
 use Rattle.std.proofs.KnownBytes.{Appends-trans}
 use Rattle.counted_io.specs.Device.{AppendsPrefix}
 use Rattle.counted_io.specs.Output.{Passes}
@@ -45,12 +45,6 @@ pub Passes-cut : (a b c : Option (List ℕ)) (text pending bytes : List ℕ) →
 Passes-cut a b c text pending bytes p q =
     subst (AppendsPrefix a c) (sym (ap (λ l. l ++ bytes) p.split ∙ append_assoc p.front pending bytes))
     (prefix_after a b c p.front (pending ++ bytes) p.wrote q)
-
-pub Passes-held : (a b : Option (List ℕ)) (old bytes new : List ℕ) → Passes a b (old ++ bytes) new → Appends (append_known a old) (append_known b new) bytes
-Passes-held None b old bytes new p = tt
-Passes-held (Some xs) None old bytes new p = absurd p.wrote
-Passes-held (Some xs) (Some ys) old bytes new p =
-    ap (λ l. l ++ new) p.wrote ∙ append_assoc xs p.front new ∙ ap (λ l. xs ++ l) (sym p.split) ∙ sym (append_assoc xs old bytes)
 
 pub Passes-cut-all : (a b c : Option (List ℕ)) (text pending : List ℕ) → Passes a b text pending → AppendsPrefix b c pending → AppendsPrefix a c text
 Passes-cut-all a b c text pending p q = subst (AppendsPrefix a c) (sym p.split) (prefix_after a b c p.front pending p.wrote q)

@@ -2,10 +2,8 @@
 -- Used by the calls of the auditor.
 use Rattle.std.proofs.Common.{◌≡◌, ◌≢◌, ℕ, ◌+◌, ◌<◌, Bool, true, false, codes, cond, List, [], ◌∷◌, ◌++◌, Some, None, Ok, Err, inl, inr, refl, sym, ap, subst, ◌∙◌, arith, append_assoc}
 use Rattle.std.specs.Prelude.{Option, Result}
-use Rattle.authority_cache.specs.Lives.{life_of}
 use Rattle.robots_verdict.specs.declared.said.Said.TheVariants as says
 use Rattle.gate_history.specs.declared.entry.Entry.{Entry}
-use Rattle.gate_history.specs.declared.entry.Entry.TheVariants.{Begun, Arrived, Granted, AskDenied, Started, StartDenied, Returned, Finished, Swept}
 use Rattle.gate_history.specs.Base.{Base, empty_base, IsBase}
 use Rattle.gate_history.specs.History.{History, ◌▸◌, from, is_start}
 use Rattle.gate_history.specs.Legal.{IsLegal}
@@ -14,7 +12,7 @@ use Rattle.crawl_audit.specs.declared.auditor.Auditor.{Auditor}
 use Rattle.crawl_audit.specs.declared.auditor.AuditState.TheVariants as stages
 use Rattle.crawl_audit.specs.declared.first_base.FirstBase.{FirstBase}
 use Rattle.crawl_audit.specs.declared.open_state.OpenState.{OpenState}
-use Rattle.crawl_audit.specs.declared.next_base.BaseLine.TheVariants.{Last, Other, Taken}
+use Rattle.crawl_audit.specs.declared.next_base.BaseLine.TheVariants.{Last, Taken}
 use Rattle.crawl_audit.specs.declared.next_base.NextBase.{NextBase}
 use Rattle.crawl_audit.specs.declared.unread_line.UnreadLine.{UnreadLine}
 use Rattle.crawl_audit.specs.declared.unread_line.UnreadLine.TheVariants as unread
@@ -22,7 +20,7 @@ use Rattle.history_text.specs.declared.version.Version.{Version}
 use Rattle.history_text.specs.declared.version.Version.TheVariants.{One, Two}
 use Rattle.crawl_audit.specs.Audit.{AreEntries, CountsLine, EntersLine, EntersOne, GoesTo, is_entry_line, is_start_line, Moves, StandsAt}
 use Rattle.crawl_audit.specs.Chains.{most_lines}
-use Rattle.history_text.specs.Entries.{HasLife, IsEntry}
+use Rattle.history_text.specs.Entries.{IsEntry}
 use Rattle.crawl_audit.specs.FirstBase.{Reads, TakesBaseLine}
 use Rattle.history_text.specs.Spell.{entry_line}
 use Rattle.crawl_audit.specs.Loading.{risen, with_numbers}
@@ -33,20 +31,6 @@ use Rattle.crawl_audit.specs.Tables.{EntersAll, EntersLegally, MayCome, TellsAll
 use Rattle.crawl_audit.proofs.CountedLines.{entry_counted, in_base, IsUncounted, start_counted}
 use Rattle.crawl_audit.proofs.NextSaying.{risen_alike}
 use Rattle.crawl_audit.proofs.Spelling.{one_entry}
-
-pub lawful : (version : Version) (e : Entry) → IsEntry version e → HasLife Two e
-lawful version (Begun _ _ _) is = tt
-lawful One (Arrived _ _ _ (says.Rules text) life) is = ap (life_of (says.Rules text)) is.life ∙ sym is.life
-lawful One (Arrived _ _ _ (says.Open opening) life) is = sym is.life
-lawful One (Arrived _ _ _ (says.Closed closure) life) is = sym is.life
-lawful Two (Arrived _ _ _ said life) is = is.life
-lawful version (Granted _ _ _) is = tt
-lawful version (AskDenied _ _ _) is = tt
-lawful version (Started _ _ _) is = tt
-lawful version (StartDenied _ _ _) is = tt
-lawful version (Returned _) is = tt
-lawful version (Finished _) is = tt
-lawful version (Swept _ _) is = tt
 
 -- ---- the auditor's place
 
@@ -316,11 +300,3 @@ module _ (a : Auditor) (next : NextBase) (stage : a.stage ≡ stages.Further nex
       let text = whole.is_base in
       base_ends (Some h) lines line whole.base a a' (whole.is_base, whole.says) whole.lines_are
       (subst (λ (l : OpenState). TellsAll l (from whole.base)) (sym open_state) (risen_alike a.open_state h whole.base whole.says tells)) text.base (ap (λ l. l.numbers.rising) open_state) version stage' count events starts)
-
-  pub further_stops : (line : List ℕ) (next' : NextBase) → ((h : History) (lines : List (List ℕ)) → Expects next h lines → TakesNextLine h lines line Other next') →
-      (place : Place) → StandsAt a place → (there : Place) → Steps place line there → ⊥
-  further_stops line next' takes =
-      in_further (λ place. (there : Place) → Steps place line there → ⊥)
-      (λ h lines expects tells legal there steps.
-      let none = takes h lines expects there in
-      elim steps [ inl takes ↦ none.0 takes | inr ends ↦ none.1 ends ])

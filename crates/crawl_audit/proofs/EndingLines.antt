@@ -137,13 +137,6 @@ follows_at h [] e later all = all.0
 follows_at h (d ∷ ds) e later all = follows_at (h ▸ d) ds e later all.1
 
 module _ (schemes : Schemes) (lines : List (List ℕ)) (version : Version) (rising : Bool) (h : History) (count : ℕ) (ds : List Entry) where
-  pub takes_none : (a : Auditor) → Holds schemes a lines (among version rising h count) → TakesEnds schemes lines version rising h count [] [] a
-  takes_none a holds = record {
-    holds = subst (λ (n : ℕ). Holds schemes a (lines ++ []) (among version rising h n)) (let same : count ≡ count + 0 = omega arith in same)
-        (subst (λ (ls : List (List ℕ)). Holds schemes a ls (among version rising h count)) (sym (append-nil lines)) holds);
-    text_is = refl;
-  }
-
   pub takes_more : (e : Entry) (text more : List ℕ) (a a' : Auditor) → TakesEnds schemes lines version rising h count ds text a →
       Holds schemes a' ((lines ++ lines_of version ds) ++ entry_line version e ∷ []) (among version rising (followed_by h ds ▸ e) (count + length ds + 1)) → more ≡ text ++ ended (entry_line version e) →
       TakesEnds schemes lines version rising h count (ds ++ e ∷ []) more a'

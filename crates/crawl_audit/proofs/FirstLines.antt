@@ -108,11 +108,6 @@ head_step lines line next are (inr ends) = record {
 }
 
 module _ (first : FirstBase) (open_state : OpenState) (lines : List (List ℕ)) (line : List ℕ) (reads : ReadsHead first open_state lines) where
-  pub numbers_unread : (first' : FirstBase) (open_state' : OpenState) (unread : UnreadLine) → (unread ≡ NotOne → (b : Base) → HasNumbers b → line ≢ numbers_line b) → TakesBaseLine lines line (Err unread) first' open_state'
-  numbers_unread first' open_state' NotOne none = λ next steps.
-      (let is = head_step lines line next reads.lines_are steps in none refl is.base is.is_base.fields.numbers is.line_is)
-  numbers_unread first' open_state' NoMemory none = tt
-
   pub numbers_refused : (counts : Counts) → line ≡ numbers_line (numbered counts) → HasNumbers (numbered counts) → ((0 < counts.entries) × (counts.begins + counts.started ≤ counts.entries) → ⊥) →
       (next : Place) → Steps (inside None lines) line next → ⊥
   numbers_refused counts is fields refused next steps =

@@ -33,16 +33,6 @@ row_is_not_end r = not_of_row (codes "E") r (by r)
     by (Unspent p) e = omega arith
     by (Running p) e = omega arith
 
-pub row_is_not_head : (r : OpenRow) → row_line r ≢ codes "V 3"
-row_is_not_head r = not_of_row (codes "V 3") r (by r)
-  where
-    by : (r : OpenRow) → row_letter r ≢ 86
-    by (Answered s) e = omega arith
-    by (InFlight t) e = omega arith
-    by (Greatest g) e = omega arith
-    by (Unspent p) e = omega arith
-    by (Running p) e = omega arith
-
 -- ---- what a base left open, as lines
 
 rows_then : {X : Type 0} (row : X → OpenRow) (line : X → List ℕ) → ((x : X) → line x ≡ row_line (row x)) → (xs : List X) (rows : List OpenRow) (lines : List (List ℕ)) →

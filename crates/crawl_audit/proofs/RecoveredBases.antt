@@ -13,6 +13,7 @@ use Rattle.gate_history.specs.Kept.{base_with}
 use Rattle.gate_history.specs.Legal.{IsLegal}
 use Rattle.gate_history.specs.Order.{IsInOrder, Reorders}
 use Rattle.gate_history.specs.Seal.{SaysAs}
+use Rattle.gate_core.specs.Resuming.{CanGoOn}
 use Rattle.gate_history.proofs.CallerLemmas.{reordering_says, says_base, says_on}
 use Rattle.crawl_audit.specs.declared.auditor.Auditor.{Auditor}
 use Rattle.crawl_audit.specs.declared.open_state.OpenState.{OpenState}
@@ -24,7 +25,7 @@ use Rattle.crawl_audit.specs.declared.whole_lines.WholeLines.{WholeLines}
 use Rattle.crawl_audit.specs.Audit.{Holds}
 use Rattle.crawl_audit.specs.Ending.{EndsAll, HasBegun, IsEnding, TakesEnds, ends_of, lines_of}
 use Rattle.crawl_audit.specs.NextBase.{TellsLeft}
-use Rattle.crawl_audit.specs.Recovering.{CanGoOn, HeardCut, IsRecovered, LeaveOpen, Recovers}
+use Rattle.crawl_audit.specs.Recovering.{HeardCut, IsRecovered, LeaveOpen, Recovers}
 use Rattle.crawl_audit.specs.Steps.{Place, among, inside, start}
 use Rattle.crawl_audit.specs.Tables.{TellsAll}
 use Rattle.crawl_audit.proofs.EndedHistories.{IsIdle, ended, none_left}
@@ -50,15 +51,14 @@ module _ (l : OpenState) (left : LeftOpen) (numbers : BaseNumbers) (lists : Tell
 
 -- ---- a base with nothing outstanding
 
-idle_base : (base : Base) (h : History) (cache : OpenState) → IsBase base → SaysAs (from base) h → IsIdle h → TellsAll cache h → CanGoOn base cache.cache
-idle_base base h l is says idle all =
+idle_base : (base : Base) (h : History) (cache : OpenState) → SaysAs (from base) h → IsIdle h → TellsAll cache h → CanGoOn base cache.cache
+idle_base base h l says idle all =
     let permits = says.permits in
     let runs = says.runs in
     let turns = says.turns in
     let answers = says.answers in
     let cache = all.tells.cache_tells in
     record {
-      is_base = is;
       turns = none_left base.in_flight (λ test. turns.counts test ∙ ap (λ xs. length (filter test xs)) idle.turns);
       permits = none_left base.unspent (λ test. permits.counts test ∙ ap (λ xs. length (filter test xs)) idle.permits);
       runs = none_left base.running (λ test. runs.counts test ∙ ap (λ xs. length (filter test xs)) idle.runs);
@@ -108,7 +108,7 @@ pub record IsBaseOf (l : OpenState) (base : Base) : Type 0 where
 
 -- what comes of the text
 abbrev pub Results : Schemes → Option (List ℕ) → Recovered → Type 0
-Results schemes input found = CanGoOn found.base found.cache × ((text : List ℕ) → input ≡ Some text → IsRecovered schemes text found)
+Results schemes input found = (IsBase found.base × CanGoOn found.base found.cache) × ((text : List ℕ) → input ≡ Some text → IsRecovered schemes text found)
 
 module _ (schemes : Schemes) (input : Option (List ℕ)) (w : WholeLines) (cut : HeardCut schemes w input) (begun : HasBegun cut.place) (left : Base) (left_of : IsBaseOf w.auditor.open_state left) where
   abbrev open_at : (version : Version) (rising : Bool) (h : History) (count : ℕ) → Holds schemes w.auditor cut.lines (among version rising h count) → LeaveOpen cut.lines
@@ -141,9 +141,9 @@ module _ (schemes : Schemes) (input : Option (List ℕ)) (w : WholeLines) (cut :
       let stands' = after.stands in
       let entries' = stands'.1 in
       let says' = base_of.says (followed_by h es) entries'.legal entries'.tells in
-      let on = idle_base found.base (followed_by h es) a'.open_state base_of.is_base says' done.1 entries'.tells in
+      let on = idle_base found.base (followed_by h es) a'.open_state says' done.1 entries'.tells in
       let here : CanGoOn found.base found.cache = subst (λ k. CanGoOn found.base k) (sym cached) on in (
-        here,
+        (base_of.is_base, here),
         λ text is. record {
           lines = cut.lines;
           cut = cut.cut text is;

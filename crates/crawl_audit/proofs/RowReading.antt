@@ -15,7 +15,7 @@ use Rattle.crawl_audit.specs.OpenRows.{OpenRow, Answered, InFlight, Greatest, Un
 use Rattle.crawl_audit.specs.Reading.{head_word, tail_words}
 use Rattle.history_text.specs.Spell.{answer_fields, spaced_fields}
 use Rattle.history_text.specs.SpellBase.{numbers_line}
-use Rattle.crawl_audit.proofs.NamedRows.{numbers_named, row_behind, row_named}
+use Rattle.crawl_audit.proofs.NamedRows.{row_behind, row_named}
 use Rattle.crawl_audit.proofs.Back.{authority_back, number_back, page_back}
 use Rattle.crawl_audit.proofs.RowSpelling.{IsLivedRow, row_utf8, shown_flight, shown_grant, shown_letter, shown_numbers, shown_permit, shown_standing}
 use Rattle.crawl_audit.proofs.Shown.{IsShown, IsShownOctet, words_of_fields}
@@ -111,10 +111,6 @@ line_of_numbers n = codes "T" ++ spaced_fields (decimal n.entries ∷ decimal n.
 pub number_words : (b : Base) → HasNumbers b → words_of (numbers_line b) ≡ codes "T" ∷ decimal b.entries ∷ decimal b.started ∷ decimal b.begins ∷ decimal b.moment ∷ []
 number_words b is =
     words_of_fields (codes "T") (decimal b.entries ∷ decimal b.started ∷ decimal b.begins ∷ decimal b.moment ∷ []) (shown_letter 84 (omega arith, omega arith)) (shown_numbers b is)
-
-pub numbers_back : (b : Base) → HasNumbers b → numbers_named (numbers_line b) ≡ Some (numbers_of b)
-numbers_back b is =
-    rw (number_words b is, number_back b.entries is.entries, number_back b.started is.started, number_back b.begins is.begins, number_back b.moment is.moment) refl
 
 pub utf8_numbers : (b : Base) → HasNumbers b → IsUtf8 (numbers_line b)
 utf8_numbers b is = row_utf8 84 (decimal b.entries ∷ decimal b.started ∷ decimal b.begins ∷ decimal b.moment ∷ []) (omega arith, omega arith) (shown_numbers b is)

@@ -25,8 +25,8 @@ use Rattle.history_text.specs.SpellBase.{numbers_line}
 use Rattle.crawl_audit.proofs.Back.{authority_back, number_back, page_back}
 use Rattle.crawl_audit.proofs.EntriesRead.{behind_three, other_word, refused}
 use Rattle.crawl_audit.proofs.NamedEntries.{authority_named}
-use Rattle.crawl_audit.proofs.NamedRows.{NamesPermit, NamesRow, numbers_behind, numbers_named, permit_named, row_behind}
-use Rattle.crawl_audit.proofs.RowReading.{behind_back, in_range, line_of_numbers, lived_row, number_words, numbers_back, numbers_of, row_fields, row_letter, row_words}
+use Rattle.crawl_audit.proofs.NamedRows.{NamesPermit, NamesRow, numbers_behind, permit_named, row_behind}
+use Rattle.crawl_audit.proofs.RowReading.{behind_back, in_range, line_of_numbers, lived_row, number_words, numbers_of, row_fields, row_letter, row_words}
 
 -- ---- rows
 
@@ -146,10 +146,6 @@ running_is words number fetch reads =
     running_alone words (λ r. Running (permit_for number fetch) ≡ r) (λ p is whole. ap Running (reads p is whole))
 
 -- ---- the numbers of a base
-
-pub numbers_read : (text : List ℕ) (result : Option Numbers) → result ≡ numbers_named text →
-    (n : Numbers) → HasNumbers (numbered n) → text ≡ numbers_line (numbered n) → result ≡ Some n
-numbers_read text result named n has spelled = named ∙ ap numbers_named spelled ∙ numbers_back (numbered n) has
 
 pub numbers_behind_read : (words : List (List ℕ)) (result : Option Numbers) → result ≡ numbers_behind words →
     (n : Numbers) → HasNumbers (numbered n) → codes "T" ∷ words ≡ words_of (numbers_line (numbered n)) → result ≡ Some n

@@ -175,9 +175,6 @@ run_based after p t is base for_it step =
     (inside after (codes "V 3" ∷ []), (step, run_rest after t.base for_it (numbers_line t.base ∷ (open_lines t.base ++ codes "E" ∷ [])) refl))
     (run_behind t is base))
 
-as_start : (line : List ℕ) (q : Place) → TakesEntry One false (from empty_base) 0 line q → Steps start line q
-as_start line q takes = inr (inr takes)
-
 no_rise : {P : Type 0} → false ≡ true → P
 no_rise e = absurd (true≢false (sym e))
 

@@ -48,10 +48,6 @@ same_answer a x y is own =
     let f = (bytes_eq-Decides y.authority a).0 own in
     ap (λ k. answer_before (record x { authority = k }) y) (e ∙ sym f) ∙ irreflexive answer_before answers_ordered y
 
-same_turn : (n : ℕ) (x y : Turn) → has_number n x ≡ true → has_number n y ≡ true → turn_before x y ≡ false
-same_turn n x y is own =
-    ap (λ k. turn_before (record x { turn = k }) y) (number_is x.turn n is ∙ sym (number_is y.turn n own)) ∙ irreflexive turn_before turns_ordered y
-
 same_permit : (n : ℕ) (x y : GrantedPermit) → is_numbered n x ≡ true → is_numbered n y ≡ true → permit_before x y ≡ false
 same_permit n x y is own =
     ap (λ k. permit_before (record x { number = k }) y) (number_is x.number n is ∙ sym (number_is y.number n own)) ∙ irreflexive permit_before permits_ordered y

@@ -179,14 +179,6 @@ Recovers schemes input (Ok found) = (text : List ℕ) → input ≡ Some text �
 Recovers schemes input (Err Read) = ⊥
 Recovers schemes input (Err fault) = (text : List ℕ) → input ≡ Some text → IsRecoverFault schemes text fault
 
--- nothing of the base is outstanding, and the cache has its answers
-pub record CanGoOn (base : Base) (cache : Known) : Type 0 where
-  pub is_base : IsBase base
-  pub turns : base.in_flight ≡ []
-  pub permits : base.unspent ≡ []
-  pub runs : base.running ≡ []
-  pub answers : TellsCache cache base.standing base.in_flight
-
 -- the source's failures after a recovery: one more exactly if a read failed
 abbrev pub failures_after_recovery : {T : Type 0} → ℕ → Result T RecoverFault → ℕ
 failures_after_recovery failures (Ok _) = failures

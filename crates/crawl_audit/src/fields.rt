@@ -58,7 +58,7 @@ pub(crate) fn read_token(alloc: Global, word: &str) -> Result<Token, UnreadLine>
 pub(crate) fn read_page(alloc: Global, word: &str) -> Result<PageUrl, UnreadLine>
     ensures { Reads result (result_ok (page_url_among HttpAndHttps None word.now Enough)) }
 {
-    match PageUrl::read_among(alloc, Schemes::HttpAndHttps, word) {
+    match Schemes::HttpAndHttps.read_page(alloc, word) {
         Ok(url) => Ok(url),
         Err(Unread::Fault(_)) => Err(UnreadLine::NotOne),
         Err(Unread::Overflow | Unread::NoMemory) => Err(UnreadLine::NoMemory),

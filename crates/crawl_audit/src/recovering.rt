@@ -3,13 +3,13 @@
 ghost use Rattle.std.specs.Prelude.{◌≡◌, List, Option, Some, ℕ, [], IfErr, IfOk, map};
 ghost use Rattle.path_normal.specs.declared.schemes.Schemes.{Schemes};
 ghost use Rattle.path_normal.specs.declared.schemes.Schemes.TheVariants.{Http};
-ghost use Rattle.authority_cache.specs.Lists.{TellsCache};
 ghost use Rattle.gate_history.specs.Base.{IsBase};
 ghost use Rattle.gate_history.specs.History.{History, from};
 ghost use Rattle.gate_history.specs.Legal.{IsLegal};
 ghost use Rattle.gate_history.specs.Order.{IsInOrder};
 ghost use Rattle.gate_history.specs.Seal.{SaysAs};
-ghost use Rattle.crawl_audit.specs.Recovering.{CanGoOn, HeardCut, IsRecoverFault, IsRecovered};
+ghost use Rattle.gate_core.specs.Resuming.{CanGoOn};
+ghost use Rattle.crawl_audit.specs.Recovering.{HeardCut, IsRecoverFault, IsRecovered};
 ghost use Rattle.crawl_audit.specs.Recovering.{EndsOpen, Recovers, failures_after_recovery};
 ghost use Rattle.crawl_audit.specs.Tables.{TellsAll};
 
@@ -56,12 +56,7 @@ pub fn recover<R: Source>(
         ≡ failures_after_recovery (R.failures reader.old) result }
 
     // Whatever the source gave, a book can continue from it.
-    ensures base { IfOk result (λ found. IsBase found.base) }
-    ensures turns { IfOk result (λ found. found.base.in_flight ≡ []) }
-    ensures permits { IfOk result (λ found. found.base.unspent ≡ []) }
-    ensures runs { IfOk result (λ found. found.base.running ≡ []) }
-    ensures cache { IfOk result (λ found.
-        TellsCache found.cache found.base.standing found.base.in_flight) }
+    ensures rest { IfOk result (λ found. IsBase found.base × CanGoOn found.base found.cache) }
 {
     recover_among(alloc, keys, Schemes::Http, reader)
 }
@@ -80,12 +75,7 @@ pub fn recover_among<R: Source>(
     ensures reads { R.failures reader.new
         ≡ failures_after_recovery (R.failures reader.old) result }
 
-    ensures base { IfOk result (λ found. IsBase found.base) }
-    ensures turns { IfOk result (λ found. found.base.in_flight ≡ []) }
-    ensures permits { IfOk result (λ found. found.base.unspent ≡ []) }
-    ensures runs { IfOk result (λ found. found.base.running ≡ []) }
-    ensures cache { IfOk result (λ found.
-        TellsCache found.cache found.base.standing found.base.in_flight) }
+    ensures rest { IfOk result (λ found. IsBase found.base × CanGoOn found.base found.cache) }
 {
     let mut whole = WholeLines::new(alloc, keys, schemes)?;
     // The allowed lines, one too many, and the end.
@@ -111,7 +101,7 @@ fn go_on_from(alloc: Global, whole: WholeLines) -> Result<Recovered, RecoverFaul
     requires { (schemes : Schemes) × ((input : Option (List ℕ)) × HeardCut schemes whole input) }
     ensures recovers { (schemes : Schemes) (input : Option (List ℕ))
         → HeardCut schemes whole input → Recovers schemes input result }
-    ensures rest { IfOk result (λ found. CanGoOn found.base found.cache) }
+    ensures rest { IfOk result (λ found. IsBase found.base × CanGoOn found.base found.cache) }
 {
     let octets = whole.octets;
     let mut auditor = whole.into_auditor();

@@ -3,13 +3,10 @@ ghost use Rattle.std.specs.Prelude.{◌≡◌, [], flat_map, IfOk};
 ghost use Rattle.counted_io.specs.Output.{Pushes};
 ghost use Rattle.std.specs.Io.KnownBytes.{Appends};
 ghost use Rattle.line_text.specs.Pieces.{pieces_text};
-ghost use Rattle.command_lines.specs.FaultText.{fault_words};
 ghost use Rattle.crawl_shift.specs.JobLines.{bad_line_text};
 
 use crate::job_lines::BadJobLine;
-use command_lines::{LineFault, refusal_word};
 use counted_io::{DeviceFault, Output, Sink};
-use crawl_job::Refusal;
 use line_text::{AsPieces, Piece, Pieces, push_each};
 use std::alloc::Global;
 
@@ -51,32 +48,8 @@ impl AsPieces for BadJobLine {
             Piece::Text("line "),
             Piece::Number(self.number),
             Piece::Text(": "),
-            Piece::Text(words_of(self.fault)),
+            Piece::Text(self.fault.words()),
             Piece::Text("\n"),
         ])
-    }
-}
-
-// The words of a fault, as in an `ERR` reply.
-fn words_of(fault: LineFault) -> &'static str
-    ensures { result.now ≡ fault_words fault }
-{
-    match fault {
-        LineFault::Long => "long",
-        LineFault::Lines => "lines",
-        LineFault::Chars => "chars",
-        LineFault::Words => "words",
-        LineFault::Moment => "moment",
-        LineFault::Verb => "verb",
-        LineFault::Number => "number",
-        LineFault::Token => "token",
-        LineFault::Authority => "authority",
-        LineFault::BadUrl => "url bad",
-        LineFault::NotHttp => "url scheme",
-        LineFault::HasUser => "url user",
-        LineFault::LongUrl => "url long",
-        LineFault::Status => "status",
-        LineFault::Replies => "replies",
-        LineFault::Memory => refusal_word(Refusal::NoMemory),
     }
 }

@@ -1,13 +1,11 @@
 -- What a worker has drawn after one more draw, and what all workers drew.
 -- Used by `Crew` and `run_shift`.
-use Rattle.std.proofs.Common.{◌≡◌, ◌∙◌, ℕ, zero, suc, ◌<◌, ◌≤◌, Bool, true, false, List, [], ◌∷◌, ◌++◌, length, slice_set, ap, refl, sym, subst, arith}
+use Rattle.std.proofs.Common.{◌≡◌, ◌∙◌, ℕ, zero, suc, ◌<◌, ◌≤◌, Bool, true, false, List, [], ◌∷◌, ◌++◌, length, slice_set, ap, refl, sym, arith}
 use Rattle.std.specs.Prelude.{slice_index, slice_index_or}
 use Rattle.std.specs.List.{list_all, list_any}
-use Rattle.std.proofs.lemmas.List.{length-set}
-use Rattle.atomic_table.specs.Seated.{TableId}
 use Rattle.job_line.specs.Covers.{Covers, SeatView, has_ended, lists_of}
 use Rattle.job_line.specs.Sums.{weigh, weigh_all, weigh_below}
-use Rattle.crawl_workers.specs.Crews.{IsAtLine, StaysAt, one_at_number}
+use Rattle.crawl_workers.specs.Crews.{StaysAt, one_at_number}
 use Rattle.crawl_workers.specs.Orders.{IsOrder, weigh_at}
 use Rattle.crawl_workers.proofs.Ordering.{weigh_both, weigh_indexes}
 use Rattle.crawl_workers.proofs.Placing.{one_below_some, one_for_itself, weigh_below-one_for}
@@ -62,34 +60,6 @@ all_found (false ∷ ended) each = absurd (apart (each 0 (omega arith)))
 
 pub stays : (seat : SeatView) → StaysAt seat seat
 stays seat = record { same_line = refl; same_counts = refl; same_parts = refl; same_sites = refl; ends_kept = λ site is. is }
-
-pub stays_drawn : (old new : SeatView) (drawn : List ℕ) → new ≡ record old { drawn = drawn } → StaysAt old new
-stays_drawn old new drawn is = subst (StaysAt old) (sym is) (record { same_line = refl; same_counts = refl; same_parts = refl; same_sites = refl; ends_kept = λ site end. end })
-
-pub stays_ended : (old new : SeatView) (site : ℕ) → new ≡ record old { ended = slice_set old.ended site true } → StaysAt old new
-stays_ended old new site is = subst (StaysAt old) (sym is) (record {
-  same_line = refl;
-  same_counts = refl;
-  same_parts = refl;
-  same_sites = length-set old.ended site true;
-  ends_kept = λ other end. end_kept old.ended site other end;
-})
-
-pub stays_on : (old mid new : SeatView) → StaysAt old mid → StaysAt mid new → StaysAt old new
-stays_on old mid new first second = record {
-  same_line = second.same_line ∙ first.same_line;
-  same_counts = second.same_counts ∙ first.same_counts;
-  same_parts = second.same_parts ∙ first.same_parts;
-  same_sites = second.same_sites ∙ first.same_sites;
-  ends_kept = λ site end. second.ends_kept site (first.ends_kept site end);
-}
-
-pub at_line_still : (line : TableId) (counts : List ℕ) (old new : SeatView) → StaysAt old new → IsAtLine line counts old → IsAtLine line counts new
-at_line_still line counts old new stays at = record {
-  its_line = stays.same_line ∙ at.its_line;
-  its_counts = stays.same_counts ∙ at.its_counts;
-  its_sites = stays.same_sites ∙ at.its_sites;
-}
 
 -- each job is drawn once if the seats cover the line and one found the end of each site
 pub drawn_once : (count : ℕ) (counts order : List ℕ) (drawn : List (List ℕ)) (seats : List SeatView) → IsOrder count counts order → Covers counts seats → list_any has_ended seats ≡ true

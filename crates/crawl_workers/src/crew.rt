@@ -97,7 +97,7 @@ impl Model for Work {
 impl<F: Fetcher, C: Clock, W: Watcher, P: Pace> Crew<'_, F, C, W, P> {
     /// Opens a desk for the worker of this seat, does jobs until none is left, and closes the desk whatever
     /// happened.
-    pub(crate) fn man_desk<G: Gate, R: Wait>(
+    pub(crate) fn run_worker<G: Gate, R: Wait>(
         &self,
         rt: &R,
         alloc: Global,
@@ -192,8 +192,8 @@ impl<F: Fetcher, C: Clock, W: Watcher, P: Pace> Crew<'_, F, C, W, P> {
         ensures seat { StaysAt work.old.seat work.new.seat }
         ensures ok { OnOk result (HasWorked
             (world_of (F.gives self.now.fetcher.now) (F.follows self.now.fetcher.now) (C.reads self.now.clock.now))
-            self.now.jobs.now self.now.order.now work.new (receipt_of desk.new)) }
-        ensures end { OnOk result (ended_at site work.new.seat ≡ true) }
+            self.now.jobs.now self.now.order.now work.new (receipt_of desk.new)
+            × (ended_at site work.new.seat ≡ true)) }
     {
         'draws: for _ in rt.forever() {
             if !self.draw_one(rt, alloc, site, desk, work)? {

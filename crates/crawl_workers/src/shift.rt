@@ -139,15 +139,7 @@ impl<
             (world_of (F.gives self.now.fetcher.now) (F.follows self.now.fetcher.now) (C.reads self.now.clock.now))
             jobs.now self.now.workers) }
     {
-        let ShiftCrew {
-            rt,
-            alloc,
-            workers,
-            delay,
-            fetcher,
-            clock,
-            watcher,
-        } = *self;
+        let (rt, alloc, workers, delay) = (self.rt, self.alloc, self.workers, self.delay);
         let mut outcomes = no_outcomes(alloc, jobs.len())?;
         let Order {
             names,
@@ -163,9 +155,9 @@ impl<
             order: &numbers,
             counts: &counts,
             sites: &sites,
-            fetcher,
-            clock,
-            watcher,
+            fetcher: self.fetcher,
+            clock: self.clock,
+            watcher: self.watcher,
             pace: &Pauses { rt, delay },
         };
         let handover = crew.do_all(rt, alloc, gate, seats)?;
@@ -239,12 +231,12 @@ impl<F: Fetcher + Sync, C: Clock + Sync, W: Watcher + Sync, P: Pace + Sync> Crew
     {
         let handover = Handover::with_room(alloc)?;
         let pool = Pool::new(alloc, seats)?;
-        let returned = self.man_all(rt, alloc, gate, pool)?;
+        let returned = self.run_workers(rt, alloc, gate, pool)?;
         Ok(handover.filled(returned))
     }
 
     // Runs each worker on its own thread, and the last one on this.
-    fn man_all<G: Gate + Send + Sync, R: Threads + Wait + Sync>(
+    fn run_workers<G: Gate + Send + Sync, R: Threads + Wait + Sync>(
         &self,
         rt: &R,
         alloc: Global,
@@ -265,7 +257,7 @@ impl<F: Fetcher + Sync, C: Clock + Sync, W: Watcher + Sync, P: Pace + Sync> Crew
                     (world_of (F.gives crew.entry.now.fetcher.now) (F.follows crew.entry.now.fetcher.now)
                     (C.reads crew.entry.now.clock.now))
                     crew.entry.now.jobs.now crew.entry.now.order.now seat result }
-            { crew.man_desk(rt, alloc, gate, seat) },
+            { crew.run_worker(rt, alloc, gate, seat) },
         )
     }
 }

@@ -3,7 +3,7 @@
 //! docs/crawlgate.1.md has the options.
 ghost use Rattle.std.specs.Prelude.{IfOk};
 ghost use Rattle.gate_core.specs.Limits.{AreLimits};
-ghost use Rattle.gate_journal.specs.Resuming.{IsIdle};
+ghost use Rattle.gate_core.specs.Resuming.{IsIdle};
 
 use counted_io::Counted;
 use gate_clock::{Beginning, SteadyClock};

@@ -9,7 +9,7 @@ mod serving;
 mod tls_program;
 
 ghost use Rattle.std.specs.Prelude.{◌≡◌, ◌≤◌, IfOk, length};
-ghost use Rattle.gate_journal.specs.Resuming.{IsIdle};
+ghost use Rattle.gate_core.specs.Resuming.{IsIdle};
 ghost use Rattle.job_line.specs.Limits.{IsCrew, max_jobs};
 ghost use Rattle.program_arguments.specs.Options.{AreForShift};
 

@@ -12,8 +12,8 @@ use fetchers::Fetcher;
 use gate_journal::Recording;
 use gate_lock::{Gate, GateLock, Receipts};
 use job_line::{MAX_JOBS, MAX_WORKERS};
-use journal::{Abreast, Behind, GroupJournal, Recorder, Unrecorded};
-use journal_keepers::{FetchesBehind, Looks};
+use journal::{CaughtUp, GroupJournal, JournaledSink, Recorder, Unrecorded};
+use journal_keepers::{JournaledFetcher, Looks};
 use keepers::{NoKeeper, fetch_anew};
 use page_worker::Clock;
 use program_arguments::ShiftOutput;
@@ -169,8 +169,8 @@ impl<
         requires jobs { length jobs.now ≤ max_jobs }
         requires workers { IsCrew shift.now.workers }
     {
-        let fetcher = FetchesBehind {
-            ahead: self.abreast(),
+        let fetcher = JournaledFetcher {
+            ahead: self.caught_up(),
             fetcher: shift.fetcher,
         };
         let behind = Shift {
@@ -203,7 +203,7 @@ impl<
     {
         let gate = self.gate;
         let output = Counted::new(Reasoned::new(host.stdout()));
-        let mut writer = Behind::new(self.abreast(), output);
+        let mut writer = JournaledSink::new(self.caught_up(), output);
         let closed = ClosedSites::new(shift.rt, shift.alloc);
         let end = write_told(shift, jobs, &mut writer, gate, past, told, &closed);
         // (a failing standard error does not change the status)
@@ -244,8 +244,8 @@ impl<
     }
 
     // What records before each write and fetch.
-    fn abreast(&self) -> Abreast<'r, Recording<'a, G, R>, J, R> {
-        Abreast {
+    fn caught_up(&self) -> CaughtUp<'r, Recording<'a, G, R>, J, R> {
+        CaughtUp {
             rt: self.chronicle.rt,
             chronicle: self.chronicle,
             journal: self.journal,

@@ -1,6 +1,6 @@
 //! `crawlgate serve`: serves clients that connect to its gate.
 ghost use Rattle.std.specs.Prelude.{◌≡◌};
-ghost use Rattle.gate_journal.specs.Resuming.{IsIdle};
+ghost use Rattle.gate_core.specs.Resuming.{IsIdle};
 ghost use Rattle.job_line.specs.Limits.{IsCrew};
 ghost use Rattle.program_arguments.specs.Options.{AreForServe};
 
@@ -49,13 +49,13 @@ pub(crate) fn serve<R: Threads + Wait + time::Clock + Sync>(
         return ending;
     }
     match open_journal(host, &options.journal) {
-        Ok(journal) => serve_over(rt, host, &options, journal),
+        Ok(journal) => open_and_serve(rt, host, &options, journal),
         Err(ending) => ending,
     }
 }
 
 // Listens, and serves with this journal, if any, from where it ends.
-fn serve_over<R: Threads + Wait + time::Clock + Sync>(
+fn open_and_serve<R: Threads + Wait + time::Clock + Sync>(
     rt: &R,
     host: &HostRuntime,
     options: &ServeOptions,
@@ -66,7 +66,7 @@ fn serve_over<R: Threads + Wait + time::Clock + Sync>(
     match begin_with(host, options.limits, &journal) {
         Ok(begun) => match listen(host, &options.place) {
             Ok(listener) => {
-                let ending = serve_at(rt, host, options, begun, &listener, journal);
+                let ending = listen_and_serve(rt, host, options, begun, &listener, journal);
                 leave(host, &options.place);
                 ending
             }
@@ -77,7 +77,7 @@ fn serve_over<R: Threads + Wait + time::Clock + Sync>(
 }
 
 // Listens for overseers too, if the options say so, and serves.
-fn serve_at<R: Threads + Wait + time::Clock + Sync>(
+fn listen_and_serve<R: Threads + Wait + time::Clock + Sync>(
     rt: &R,
     host: &HostRuntime,
     options: &ServeOptions,
@@ -191,7 +191,7 @@ fn serve_clients<R: Threads + Wait + time::Clock + Sync>(
                 },
             };
             let blanks = Blanks::new();
-            run_over::<Brand, _, _, _, _>(host, options, &server, begun, blanks, journal)
+            run_server::<Brand, _, _, _, _>(host, options, &server, begun, blanks, journal)
         }
         Err(_) => Ending::NoMemory,
     }
@@ -206,7 +206,7 @@ fn ahead_of(ahead: Ahead) -> Option<Duration> {
 }
 
 // Runs a server over the gate's beginning, with its journal, if any.
-fn run_over<
+fn run_server<
     G: Gate + Send + Sync,
     F: crawl_workers::Fetcher + Sync,
     C: crawl_workers::Clock + Sync,
@@ -228,13 +228,13 @@ fn run_over<
     let (gate, receipts) = GateLock::<G>::resume(server.alloc, book, blanks);
     let past = Past { receipts, sites };
     match journal {
-        Some(journal) => run_recorded(host, options, server, &gate, past, journal),
-        None => run_behind(host, options, server, &gate, past, &Unrecorded),
+        Some(journal) => run_with_journal(host, options, server, &gate, past, journal),
+        None => run_and_tell(host, options, server, &gate, past, &Unrecorded),
     }
 }
 
 // Begins the journal of a gate, and runs a server with it. Reports why the journal has failed.
-fn run_recorded<
+fn run_with_journal<
     G: Gate + Send + Sync,
     F: crawl_workers::Fetcher + Sync,
     C: crawl_workers::Clock + Sync,
@@ -263,7 +263,7 @@ fn run_recorded<
     };
     match GroupJournal::begin(server.alloc, &chronicle, folder, sync, room) {
         Ok(journal) => {
-            let ending = run_behind(host, options, server, gate, past, &journal);
+            let ending = run_and_tell(host, options, server, gate, past, &journal);
             match journal.fault(server.rt) {
                 Some(fault) => tell_failed_journal(host, name, fault),
                 None => ending,
@@ -274,7 +274,7 @@ fn run_recorded<
 }
 
 // Reports where it listens, runs a recorded server, and reports what it has done.
-fn run_behind<
+fn run_and_tell<
     G: Gate + Send + Sync,
     F: crawl_workers::Fetcher + Sync,
     C: crawl_workers::Clock + Sync,

@@ -5,10 +5,11 @@ ghost use Rattle.fetchers.specs.Limits.{robots_limit};
 ghost use Rattle.fetchers.specs.Walks.{IsOnWalk};
 
 use gate_lock::{Fetched, Gate, RobotsTurn, Running};
-use http_client::{Deadline, Failure};
+use http_client::Failure;
 use http_wire::{HttpReply, WireFault};
 use path_normal::{PageUrl, Schemes};
 use robots_text::Token;
+use stream_waits::Deadline;
 
 /// Leave to fetch a page once. `Fetcher::fetch_page` makes it for a started permit; nothing else does. It
 /// has no `Drop`: `spend` uses it up.

@@ -11,7 +11,7 @@ ghost use Rattle.fetchers.specs.Network.{IsFetcherOf, agent_with, schemes_by};
 
 use crate::fetcher::{Fetcher, PageLeave, RobotsLeave};
 use crate::text_room::TextRoom;
-use http_client::{AddressBlock, Deadline, Failure, Reach, TcpClient, TimeLimits};
+use http_client::{AddressBlock, Failure, Reach, TcpClient, TimeLimits};
 use http_wire::{HttpReply, WireFault};
 use path_normal::{PageUrl, Schemes};
 use robots_text::MAX_TEXT;
@@ -19,6 +19,7 @@ use std::alloc::{AllocError, Global};
 use std::marker::Model;
 use std::net::{Net, SocketAddr, TcpStream};
 use std::time;
+use stream_waits::Deadline;
 
 /// The most octets of a robots.txt: those kept, and one that shows that there are more.
 const ROBOTS_LIMIT: usize = MAX_TEXT + 1;

@@ -2,10 +2,9 @@
 //! RFC 9309, sections 2.3.1 and 2.4.
 ghost use Rattle.std.specs.Prelude.{◌≡◌, [], true, IfOk};
 ghost use Rattle.std.specs.List.{list_all};
-ghost use Rattle.authority_cache.specs.Lists.{TellsCache};
 ghost use Rattle.gate_core.specs.Kept.{is_grant_of};
 ghost use Rattle.gate_core.specs.Limits.{AreLimits};
-ghost use Rattle.gate_core.specs.Resuming.{IsBehind, Resumes};
+ghost use Rattle.gate_core.specs.Resuming.{CanGoOn, IsBehind, Resumes};
 
 use crate::book::Book;
 use crate::config::{Config, Limits};
@@ -32,10 +31,7 @@ impl Book {
         cache: Cache,
     ) -> Result<Book, NotResumed>
         requires limits { AreLimits config.limits }
-        requires turns { base.in_flight ≡ [] }
-        requires permits { base.unspent ≡ [] }
-        requires runs { base.running ≡ [] }
-        requires cache { TellsCache cache base.standing base.in_flight }
+        requires base { CanGoOn base cache }
         ensures limits { IfOk result (λ book. book.limits ≡ config.limits) }
         ensures base { IfOk result (λ book. book.base ≡ base) }
         ensures entries { IfOk result (λ book. book.entries ≡ []) }

@@ -1,5 +1,5 @@
 -- Histories that say the same decide alike, and have the same legal entries.
--- Used by `order_changes_nothing` of `laws.rt`.
+-- Used by `order_changes_nothing` and `order_keeps_legal` of `laws.rt`.
 use Rattle.std.proofs.Common.{◌≡◌, ℕ, Bool, true, false, nat_le, List, [], ◌∷◌, refl, sym, subst, ◌∙◌, true≢false, arith}
 use Rattle.std.specs.Prelude.{Option, Result, Ok, Err}
 use Rattle.path_normal.specs.PageText.{authority_of}

@@ -29,6 +29,11 @@ pub fn order_changes_nothing()
     ensures goes_on { GoOnAlike }
     ensures answers { SayingAnswersAlike }
     ensures decides { DecideAlike }
+{}
+
+/// What is legal over a base is legal over each history that says the same; the converse if each grant is
+/// above its slot's.
+pub fn order_keeps_legal()
     ensures behind { LegalBehind }
     ensures ahead { LegalAhead }
 {}

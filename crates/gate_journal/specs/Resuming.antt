@@ -8,14 +8,6 @@ use Rattle.gate_history.specs.Base.{Base, empty_base}
 use Rattle.gate_journal.specs.declared.resuming.Resumed.{Resumed}
 use Rattle.path_normal.specs.declared.schemes.Schemes.{Schemes}
 
--- a gate without entries since its base, and with nothing out: a lock can be put round it
-abbrev pub IsIdle : Gate → Type 0
-IsIdle g =
-    (g.entries ≡ [])
-    × ((g.base.in_flight ≡ []) × (g.base.unspent ≡ []) × (g.base.running ≡ []))
-    × (g.base.entries ≡ 0 → g.base ≡ empty_base)
-    × (g.base.started < 2 ^ 63)
-
 -- the gate continues the base; without entries it is a new one
 abbrev pub GoesOnFrom : Base → Gate → Type 0
 GoesOnFrom base g = (g.base ≡ base) ⊎ ((base.entries ≡ 0) × (g.base ≡ empty_base))

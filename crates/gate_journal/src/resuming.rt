@@ -1,9 +1,9 @@
 //! A book that continues a journal's last file, and what ends that file's text.
 //! docs/FORMATS.md has the texts; RFC 9309, sections 2.3.1 and 2.4.
 ghost use Rattle.std.specs.Prelude.{◌≡◌, List, [], Some, ℕ, IfOk, OnOk};
-ghost use Rattle.authority_cache.specs.Lists.{TellsCache};
 ghost use Rattle.gate_core.specs.Limits.{AreLimits};
-ghost use Rattle.gate_journal.specs.Resuming.{AreFirst, GoesOnFrom, IsIdle, IsResumed};
+ghost use Rattle.gate_core.specs.Resuming.{CanGoOn, IsIdle};
+ghost use Rattle.gate_journal.specs.Resuming.{AreFirst, GoesOnFrom, IsResumed};
 
 use crate::resume_fault::ResumeFault;
 use authority_cache::{Cache, StandingAnswer};
@@ -74,10 +74,7 @@ pub fn resume<R: Source>(
 // The book that continues a base, or a new one if it has no entry.
 fn book_from(alloc: Global, config: Config, base: Base, cache: Cache) -> Result<Book, ResumeFault>
     requires limits { AreLimits config.limits }
-    requires turns { base.in_flight ≡ [] }
-    requires permits { base.unspent ≡ [] }
-    requires runs { base.running ≡ [] }
-    requires cache { TellsCache cache base.standing base.in_flight }
+    requires base { CanGoOn base cache }
     ensures idle { IfOk result IsIdle }
     ensures limits { IfOk result (λ book. book.limits ≡ config.limits) }
     ensures base { IfOk result (GoesOnFrom base) }

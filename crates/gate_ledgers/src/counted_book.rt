@@ -9,6 +9,7 @@ ghost use Rattle.gate_history.specs.Outstanding.{is_running, is_unspent, stands,
 ghost use Rattle.gate_history.specs.Standing.{has_turn};
 ghost use Rattle.gate_core.specs.Gate.{history};
 ghost use Rattle.gate_history.specs.Ruling.{IsRuling};
+ghost use Rattle.gate_core.specs.Resuming.{IsIdle};
 ghost use Rattle.gate_core.specs.Sealing.{Seals};
 ghost use Rattle.gate_core.specs.Replies.{Arrives, Asks, Begins, Finishes, Returns, Starts, Sweeps, moment_at};
 ghost use Rattle.gate_ledgers.specs.Accounts.{past_of, with_handed_out, with_marks};
@@ -79,11 +80,7 @@ impl<G: Gate> CountedBook<G> {
         book: Book,
         blanks: Blanks,
     ) -> (CountedBook<G>, Accounts<G>, Receipts<G>)
-        requires entries { book.entries ≡ [] }
-        requires out { (book.base.in_flight ≡ []) × (book.base.unspent ≡ [])
-            × (book.base.running ≡ []) }
-        requires start { book.base.entries ≡ 0 → book.base ≡ empty_base }
-        requires starts { book.base.started < 2 ^ 63 }
+        requires idle { IsIdle book }
         requires blanks { blanks ≡ G.ledgers }
         ensures book { result.0 ≡ book }
         ensures past { result.2 ≡ past_of book.base }

@@ -2,6 +2,7 @@
 //! Each call here takes the lock once; none fetches or matches under it.
 ghost use Rattle.std.specs.Prelude.{◌≡◌, ◌^◌, ◌<◌, [], IfOk};
 ghost use Rattle.gate_history.specs.Base.{empty_base};
+ghost use Rattle.gate_core.specs.Resuming.{IsIdle};
 ghost use Rattle.gate_ledgers.specs.Accounts.{past_of};
 ghost use Rattle.gate_lock.specs.Desks.{IsGateOf, IsNew, out_of};
 
@@ -48,11 +49,7 @@ impl<G: Gate> GateLock<G> {
     /// receipts of all before, which are needed to settle the gate with those of its desks. The base must
     /// have nothing out; without entries it must be empty. The receipts take no memory.
     pub fn resume(alloc: Global, book: Book, blanks: Blanks) -> (GateLock<G>, Receipts<G>)
-        requires entries { book.entries ≡ [] }
-        requires out { (book.base.in_flight ≡ []) × (book.base.unspent ≡ [])
-            × (book.base.running ≡ []) }
-        requires start { book.base.entries ≡ 0 → book.base ≡ empty_base }
-        requires starts { book.base.started < 2 ^ 63 }
+        requires idle { IsIdle book }
         requires blanks { blanks ≡ G.ledgers }
         ensures limits { result.0 ≡ book.limits }
         ensures past { result.1 ≡ past_of book.base }

@@ -7,5 +7,4 @@ pub mod Exchange
 pub mod Reach
 pub mod HostPort
 pub mod TimeLimits
-pub mod Times
 pub mod TlsHeader

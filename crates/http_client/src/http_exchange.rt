@@ -32,11 +32,11 @@ pub fn exchange<S: Source, W: Sink>(
         (W.failures writer.old) (W.failures writer.new) (S.left reader.old)
         (S.failures reader.old) (S.failures reader.new) result }
 {
-    exchange_behind(alloc, reader, writer, &[], url, agent, limit)
+    exchange_with_header(alloc, reader, writer, &[], url, agent, limit)
 }
 
 /// `exchange` with a header before the request, for a program between both ends.
-pub fn exchange_behind<S: Source, W: Sink>(
+pub fn exchange_with_header<S: Source, W: Sink>(
     alloc: Global,
     reader: &mut S,
     writer: &mut W,

@@ -3,7 +3,6 @@
 #![tactic(auto)]
 
 mod address_block;
-mod deadline;
 mod failure;
 mod heard;
 mod host_port;
@@ -19,12 +18,11 @@ mod tls_exchange;
 mod tls_header;
 
 pub use address_block::AddressBlock;
-pub use deadline::Deadline;
 pub use failure::Failure;
 pub use host_port::{HostPort, host_port_of};
-pub use http_exchange::{exchange, exchange_behind};
+pub use http_exchange::{exchange, exchange_with_header};
 pub use reach::Reach;
 pub use tcp_client::TcpClient;
 pub use time_limits::{CONNECT_SECONDS, STEP_SECONDS, TimeLimits, WHOLE_SECONDS};
-pub use timed_stream::{TimedStream, Waits};
+pub use timed_stream::TimedStream;
 pub use tls_header::{TlsHeaderFault, tls_header_of};

@@ -5,7 +5,6 @@ ghost use Rattle.std.specs.Net.Socket.{socket_ip};
 ghost use Rattle.http_client.specs.Reach.{MayReach, may_reach};
 
 use crate::address_block::AddressBlock;
-use crate::deadline::Deadline;
 use crate::host_port::host_port_of;
 use crate::own_address::may_be_own;
 use crate::reach::{Reach, is_among};
@@ -16,6 +15,7 @@ use std::net::{IpAddr, Net, SocketAddr, TcpStream, ToSocketAddrs};
 use std::sync::atomic::AtomicBool;
 use std::time::Duration;
 use std::{array, io, iter, time};
+use stream_waits::Deadline;
 
 // The addresses of a host, as the system gives them: at most so many.
 type Addresses = iter::Take<array::IntoIter<SocketAddr, 32>>;

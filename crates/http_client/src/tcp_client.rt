@@ -8,7 +8,6 @@ ghost use Rattle.http_client.specs.Reach.{MayReach};
 ghost use Rattle.http_client.specs.declared.reach.Reach.TheVariants.{Anywhere};
 
 use crate::address_block::AddressBlock;
-use crate::deadline::Deadline;
 use crate::failure::{Failure, fault_for, unheard};
 use crate::heard::{Heard, Nothing};
 use crate::http_exchange::exchange;
@@ -27,6 +26,7 @@ use std::net::{Net, SocketAddr, TcpStream};
 use std::sync::atomic::{AtomicBool, Ordering};
 use std::time::Duration;
 use std::{io, time};
+use stream_waits::Deadline;
 
 /// Fetches pages over TCP. It keeps no connection, and follows no redirect. Another program does TLS: it
 /// reads a PROXY protocol header, opens TLS to the address there, and forwards octets.

@@ -1,13 +1,12 @@
 //! A connection whose reads and writes end in time, and when stopped.
 ghost use Rattle.std.specs.Prelude.{◌≡◌};
 
-use crate::deadline::Deadline;
 use crate::failure::Failure;
 use std::io::{ErrorKind, Read, Write};
-use std::net::TcpStream;
 use std::sync::atomic::{AtomicBool, Ordering};
 use std::time::{Duration, Instant};
 use std::{io, time};
+use stream_waits::{Deadline, Waits};
 
 // The most tries of a read or write that a signal interrupts (as when a process is stopped and continued),
 // or that has nothing yet. Each try checks the time first.
@@ -15,25 +14,6 @@ const MOST_TRIES: u32 = 1_000;
 
 // The most seconds of a try, so that a stop is noticed.
 const TRY_SECONDS: u64 = 1;
-
-/// A connection with settable timeouts.
-pub trait Waits: Read + Write {
-    /// Limits how long a read waits.
-    fn limit_reads(&self, most: Duration) -> io::Result<()>;
-
-    /// Limits how long a write waits.
-    fn limit_writes(&self, most: Duration) -> io::Result<()>;
-}
-
-impl Waits for &TcpStream {
-    fn limit_reads(&self, most: Duration) -> io::Result<()> {
-        self.set_read_timeout(Some(most))
-    }
-
-    fn limit_writes(&self, most: Duration) -> io::Result<()> {
-        self.set_write_timeout(Some(most))
-    }
-}
 
 /// A connection with a time limit. A read or write that would exceed it fails, and so does each within a
 /// second of a stop. The unread octets and the written ones are the connection's.

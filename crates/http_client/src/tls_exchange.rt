@@ -6,14 +6,14 @@ ghost use Rattle.http_client.specs.Agent.{IsAgent};
 ghost use Rattle.http_client.specs.Cut.{IsWholeBefore, unless_ended};
 
 use crate::heard::{Heard, Unseen};
-use crate::http_exchange::exchange_behind;
+use crate::http_exchange::exchange_with_header;
 use counted_io::{Counted, Sink};
 use http_wire::{HttpReply, WireFault};
 use path_normal::PageUrl;
 use std::alloc::Global;
 use std::io::Read;
 
-/// `exchange_behind` over a connection to the TLS program, which is given back.
+/// `exchange_with_header` over a connection to the TLS program, which is given back.
 ///
 /// Where TLS was cut that connection ends as if it had been ended, so a response which only that end would
 /// end is `EarlyEnd`: one with neither a length nor chunks, unless its body is over the limit.
@@ -31,7 +31,7 @@ pub(crate) fn exchange_through<S: Read, W: Sink, U: Unseen>(
     ensures whole { IsWholeBefore U.octets (S.remaining stream) limit result.0 }
 {
     let mut reader = Counted::new(Heard::new(stream));
-    let given = exchange_behind(alloc, &mut reader, writer, header, url, agent, limit);
+    let given = exchange_with_header(alloc, &mut reader, writer, header, url, agent, limit);
     let heard: Heard<S, U> = reader.into_inner();
     (unless_ended(given, heard.ended), heard)
 }

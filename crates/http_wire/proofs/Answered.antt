@@ -38,7 +38,7 @@ final_of seen input more found is parts =
 
 pub reply_told : (left left' : Option (List ℕ)) (seen : List ℕ) (found : FinalHead) (limit : ℕ) (body : Body) (reply : HttpReply)
     → Grows left left' [] seen → IsFound seen found → ReadsBody found.framing limit found.end left' seen (Ok body)
-    → reply_of reply ≡ record { status = found.status; location = option_map string_bytes found.location; max_age = found.max_age; body = body.octets.items; cut = body.cut }
+    → reply_of reply ≡ record { status = found.status; location = option_map string_bytes found.location; max_age = found.max_age; head = found.octets.items; body = body.octets.items; cut = body.cut }
     → Tells left limit (Ok reply)
 reply_told left left' seen found limit body reply grows is reads same = record {
   input = reads.input;
@@ -56,6 +56,7 @@ reply_told left left' seen found limit body reply grows is reads same = record {
       status = is.status;
       location = is.location;
       max_age = is.max_age;
+      octets = is.octets;
     };
     within = reads.tells.within;
   });

@@ -4,19 +4,16 @@ use Rattle.std.proofs.Common.{◌≡◌, ℕ, ◌+◌, ◌-◌, ◌<◌, ◌≤�
 use Rattle.std.specs.Prelude.{◌⊎◌}
 use Rattle.std.proofs.Math.Seq.{take-append-add}
 use Rattle.std.proofs.lemmas.Grind.{flat_map-append}
-use Rattle.std.proofs.lemmas.List.{length-take-le, take-take, drop-append-le}
+use Rattle.std.proofs.lemmas.List.{length-take-le, take-take}
 use Rattle.std.proofs.lemmas.List.Elements.{All-push}
 use Rattle.httparse.specs.Ascii.{crlf_bytes}
 use Rattle.httparse.specs.Grammar.{ChunkLine, print_chunk_line, chunk_size, ReadsChunkLine, HasNoChunkLine, MayBecomeChunkLine, print_section}
 use Rattle.httparse.specs.Spans.{SectionOverflows}
 use Rattle.http_wire.specs.Limits.{max_trailers}
-use Rattle.httparse.proofs.ChunkLemmas.{ReadsChunkLine-append}
-use Rattle.httparse.proofs.PieceLemmas.{front-append}
-use Rattle.http_wire.specs.declared.chunked.ChunkState.{ChunkState}
 use Rattle.http_wire.specs.declared.chunked.ChunkState.TheVariants as places
 use Rattle.http_wire.specs.declared.chunked.ChunkDecoder.{ChunkDecoder}
 use Rattle.http_wire.specs.Chunks.{Chunk, print_chunk, IsChunk, print_chunks, joined, ReadsChunks, ReadsTrailers, GivesWhole, GivesCut, AfterLast, AfterOctets, IsOpenEnd, NeverHasEnd, EndsInTrailers, in_line, in_octets, in_end, in_trailers, EndsInChunked, IsTooLong, HasTooManyLines, bad_end, bad_trailers, too_long, IsBadChunked, EndsTooLong}
-use Rattle.http_wire.specs.Decoding.{StandsAt, Decoded, Stands}
+use Rattle.http_wire.specs.Decoding.{Decoded}
 use Rattle.http_wire.proofs.ChunkLists.{regroup}
 
 -- ---- at a chunk line
@@ -183,39 +180,3 @@ trailers_full limit text octets rest d full =
     (d.chunks, d.middle, d.reads, after_last HasTooManyLines limit text octets rest d full)
 
 -- ---- more bytes
-
-stands_at_append : (place : ChunkState) (middle rest more : List ℕ) → StandsAt place middle rest → StandsAt place (middle ++ more) (rest ++ more)
-stands_at_append places.Line middle rest more is = ap (λ t. t ++ more) is
-stands_at_append (places.Octets size) middle rest more (line, reads, is, some) = (line, ReadsChunkLine-append middle line rest more reads, is, some)
-stands_at_append places.Trailers middle rest more (line, reads, zero) = (line, ReadsChunkLine-append middle line rest more reads, zero)
-
-pub decoded_append : (limit : ℕ) (text octets : List ℕ) (place : ChunkState) (rest more : List ℕ) → Decoded limit text octets place rest
-    → Decoded limit (text ++ more) octets place (rest ++ more)
-decoded_append limit text octets place rest more d = record {
-  chunks = d.chunks;
-  middle = d.middle ++ more;
-  reads = record {
-    valid = d.reads.valid;
-    fits = d.reads.fits;
-    text_is = front-append text (print_chunks d.chunks) d.middle more d.reads.text_is;
-  };
-  octets_are = d.octets_are;
-  at = stands_at_append place d.middle rest more d.at;
-}
-
-pub stands_append : (decoder : ChunkDecoder) (bytes more : List ℕ) → Stands decoder bytes → Stands decoder (bytes ++ more)
-stands_append decoder bytes more s = record {
-  started = s.started;
-  within = omega (arith, s.within, length-append bytes more);
-  decoded =
-      let d = decoded_append decoder.limit (drop decoder.start bytes) decoder.octets.items decoder.place (drop decoder.at bytes) more s.decoded in
-      let prefix : drop decoder.start bytes ++ more ≡ drop decoder.start (bytes ++ more) = sym (drop-append-le decoder.start bytes more (omega (arith, s.started, s.within))) in
-      let rest : drop decoder.at bytes ++ more ≡ drop decoder.at (bytes ++ more) = sym (drop-append-le decoder.at bytes more s.within) in
-      subst (λ t. Decoded decoder.limit t decoder.octets.items decoder.place (drop decoder.at (bytes ++ more))) prefix
-      (subst (Decoded decoder.limit (drop decoder.start bytes ++ more) decoder.octets.items decoder.place) rest d);
-}
-
-pub stands_longer : (decoder : ChunkDecoder) (text : List ℕ) (n m : ℕ) → n ≤ m → Stands decoder (take n text) → Stands decoder (take m text)
-stands_longer decoder text n m le s =
-    let whole : take n text ++ drop n (take m text) ≡ take m text = ap (λ t. t ++ drop n (take m text)) (sym (take-take n m text le)) ∙ take-append-drop n (take m text) in
-    subst (Stands decoder) whole (stands_append decoder (take n text) (drop n (take m text)) s)

@@ -1,7 +1,7 @@
 -- What a look at a head tells of the input, whatever follows.
 -- Used by `HeadFinder`.
 use Rattle.std.proofs.Common.{◌≡◌, ℕ, ◌+◌, ◌*◌, ◌<◌, ◌≤◌, ◌-◌, false, List, [], ◌∷◌, ◌++◌, length, map, take, drop, sym, ap, subst, ◌∙◌, arith, append_assoc, length-append, length-take, length-drop, take-append-drop, inl, inr}
-use Rattle.std.proofs.Math.Seq.{take-append-add, drop-append_seam}
+use Rattle.std.proofs.Math.Seq.{take-append-add, take-append_seam, drop-append_seam}
 use Rattle.std.specs.Prelude.{IsTrue, ◌||◌}
 use Rattle.std.specs.List.{flat_map}
 use Rattle.std.proofs.lemmas.List.{take_all, take-append-le, drop-drop}
@@ -200,15 +200,22 @@ told : (Fact : ℕ → List Pair → Type 0) (prefix : List ℕ) (headers : List
 told Fact prefix headers spans head found fact =
     subst (λ code. Fact code (head_fields head)) found.at.code (subst (Fact spans.code) found.at.fields fact)
 
+head_octets : (text : List ℕ) (headers : List HeaderSpan) (spans : ResponseSpans) (head : ResponseHead) → IsHeadAt text headers spans head
+    → take spans.len text ≡ print_response head
+head_octets text headers spans head found =
+    ap (λ n. take n text) found.at.len ∙ ap (take (length (print_response head))) found.at.reads.1
+    ∙ take-append_seam (print_response head) (drop spans.len text)
+
 pub planned : (finder : HeadFinder) (bytes : List ℕ) (headers : List HeaderSpan) (spans : ResponseSpans) (head : ResponseHead)
     (plan : FinalHead) → Passes finder bytes → IsHeadAt (take max_head (drop finder.at bytes)) headers spans head
     → IsTrue (is_final spans.code)
-    → IsPlan spans.code (map (header_bytes (take max_head (drop finder.at bytes))) (take spans.headers headers)) (finder.at + spans.len) plan
+    → IsPlan spans.code (map (header_bytes (take max_head (drop finder.at bytes))) (take spans.headers headers))
+    (take spans.len (take max_head (drop finder.at bytes))) (finder.at + spans.len) plan
     → IsFound bytes plan
 planned finder bytes headers spans head plan passes found final is =
-    let own : IsPlan (status_code head) (head_fields head) (finder.at + spans.len) plan =
-    told (λ code fields. IsPlan code fields (finder.at + spans.len) plan)
-    (take max_head (drop finder.at bytes)) headers spans head found is in
+    let prefix = take max_head (drop finder.at bytes) in
+    let own : IsPlan (status_code head) (head_fields head) (take spans.len prefix) (finder.at + spans.len) plan =
+    told (λ code fields. IsPlan code fields (take spans.len prefix) (finder.at + spans.len) plan) prefix headers spans head found is in
     let len = length-take max_head (drop finder.at bytes) in
     record {
       head = head;
@@ -219,6 +226,7 @@ planned finder bytes headers spans head plan passes found final is =
       status = own.status;
       location = own.location;
       max_age = own.max_age;
+      octets = own.octets ∙ head_octets prefix headers spans head found;
     }
 
 pub unplanned : (finder : HeadFinder) (bytes : List ℕ) (headers : List HeaderSpan) (spans : ResponseSpans) (head : ResponseHead)

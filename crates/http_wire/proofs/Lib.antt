@@ -13,6 +13,7 @@ mod Filling
 mod HeadFacts
 mod HeadLaws
 mod HeadReads
+mod KeptHeads
 mod LineEnds
 mod MaxAges
 mod Numerals

@@ -42,19 +42,6 @@ written_quoted argument text seconds quoted writes =
       | inr own ↦ ap delta_seconds (quoted_same argument text writes.digits quoted own) ∙ writes.value
     ]
 
-pub written_plain : (argument : List ℕ) (seconds : ℕ) → ((text : List ℕ) → ¬ (IsQuoted argument text)) → WritesSeconds argument seconds → delta_seconds argument ≡ Some seconds
-written_plain argument seconds plain writes =
-    elim writes.form [
-      | inl same ↦ ap delta_seconds same ∙ writes.value
-      | inr own ↦ absurd (plain writes.digits own)
-    ]
-
-pub seconds_told : (argument digits : List ℕ) (found : Option ℕ) → (argument ≡ digits) ⊎ IsQuoted argument digits → found ≡ delta_seconds digits
-    → ((seconds : ℕ) → WritesSeconds argument seconds → delta_seconds digits ≡ Some seconds)
-    → MatchOption found ((seconds : ℕ) → ¬ (WritesSeconds argument seconds)) (WritesSeconds argument)
-seconds_told argument digits None form is own = λ seconds writes. not_both (delta_seconds digits) seconds (sym is) (own seconds writes)
-seconds_told argument digits (Some n) form is own = record { digits = digits; form = form; value = sym is }
-
 pub found_quoted : (argument opened : List ℕ) (found : Option (Bor (List ℕ))) → bytes_eq (take 1 argument) (quotation_mark ∷ []) ≡ true → opened ≡ drop 1 argument
     → MatchOption found (bytes_eq (drop (length opened - 1) opened) (quotation_mark ∷ []) ≡ false)
     (λ text. (bytes_eq (drop (length opened - 1) opened) (quotation_mark ∷ []) ≡ true) × (text.now ≡ take (length opened - 1) opened) × (length text.now + 1 ≡ length opened))

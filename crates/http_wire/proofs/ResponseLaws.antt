@@ -3,7 +3,7 @@
 use Rattle.std.proofs.Common.{◌≡◌, ◌⊎◌, ℕ, List, [], ◌∷◌, ◌++◌, length, take, drop, Option, Some, None, Result, Ok, Err, refl, sym, ap, subst, ◌∙◌, arith, length-append, length-take, take-append-drop, inl, inr}
 use Rattle.std.proofs.lemmas.Bool.{false≢true}
 use Rattle.std.proofs.Math.Seq.{take-append_seam}
-use Rattle.httparse.specs.Grammar.{ResponseHead, status_code}
+use Rattle.httparse.specs.Grammar.{ResponseHead, print_response, status_code}
 use Rattle.http_wire.specs.Bodies.{Gives, InBody, IsBodyPrefix}
 use Rattle.http_wire.specs.Fields.{framing_of, IsFirstText, IsLocation}
 use Rattle.http_wire.specs.Freshness.{HasMaxAge}
@@ -52,7 +52,8 @@ reply_unique input limit a b x y =
     let max_age : a.max_age ≡ b.max_age =
     tells_unique _ a.max_age b.max_age
     (subst (λ head. HasMaxAge (head_fields head) a.max_age) heads.0 p.max_age) q.max_age in
-    λ i. record { status = status i; location = location i; max_age = max_age i; body = bodies.0 i; cut = bodies.1 i }
+    let octets : a.head ≡ b.head = p.octets ∙ ap print_response heads.0 ∙ sym q.octets in
+    λ i. record { status = status i; location = location i; max_age = max_age i; head = octets i; body = bodies.0 i; cut = bodies.1 i }
 
 -- ---- no fault beside a reply
 

@@ -2,7 +2,7 @@
 -- Cited by `head`.
 use Rattle.std.specs.Prelude.{◌≡◌, ℕ, ◌*◌, ◌+◌, ◌<◌, ◌≤◌, ◌⊎◌, Bool, ◌||◌, false, true, IsTrue, List, ◌++◌, length, take, drop, Option, Some, None, option_map, Ok, Err, ⊤}
 use Rattle.std.specs.String.{string_bytes}
-use Rattle.httparse.specs.Grammar.{ResponseHead, status_code, HasNoResponse, NeverHasResponse, MayBecomeResponse}
+use Rattle.httparse.specs.Grammar.{ResponseHead, print_response, status_code, HasNoResponse, NeverHasResponse, MayBecomeResponse}
 use Rattle.httparse.specs.Spans.{IsResponseAt, IsResponseWithin, ResponseOverflows, ResponseExceeds}
 use Rattle.httparse.specs.declared.spans.HeaderSpan.{HeaderSpan}
 use Rattle.httparse.specs.declared.spans.ResponseSpans.{ResponseSpans}
@@ -74,6 +74,7 @@ pub record IsFound (bytes : List ℕ) (found : FinalHead) : Type 0 where
   pub status : found.status ≡ status_code head
   pub location : IsLocation (head_fields head) (option_map string_bytes found.location)
   pub max_age : HasMaxAge (head_fields head) found.max_age
+  pub octets : found.octets.items ≡ print_response head
 
 -- the fault's cause, whatever follows and whatever the limit
 abbrev pub Faults : List ℕ → WireFault → Type 0
@@ -100,13 +101,14 @@ pub record Fails (left : Option (List ℕ)) (seen : List ℕ) (fault : WireFault
   pub whole : IsWhole left seen input
   pub cause : (limit : ℕ) → Cause fault input limit
 
--- the plan by this status and these fields
-pub record IsPlan (code : ℕ) (fields : List Pair) (end : ℕ) (found : FinalHead) : Type 0 where
+-- the plan by this status, these fields and the text of their head
+pub record IsPlan (code : ℕ) (fields : List Pair) (text : List ℕ) (end : ℕ) (found : FinalHead) : Type 0 where
   pub framed : framing_of code fields ≡ Ok found.framing
   pub uncoded : is_coded code fields ≡ false
   pub status : found.status ≡ code
   pub location : IsLocation fields (option_map string_bytes found.location)
   pub max_age : HasMaxAge fields found.max_age
+  pub octets : found.octets.items ≡ text
   pub end_is : found.end ≡ end
 
 -- why there is no plan

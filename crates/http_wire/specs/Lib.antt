@@ -7,6 +7,7 @@ pub mod Fields
 pub mod Finding
 pub mod Freshness
 pub mod Heads
+pub mod Kept
 pub mod Left
 pub mod Limits
 pub mod Messages

@@ -1,7 +1,7 @@
 -- What a response gives, and the cause of each fault, by the whole input.
 -- RFC 9112, sections 2 and 6.
 use Rattle.std.specs.Prelude.{◌≡◌, ℕ, ◌+◌, ◌<◌, ◌≤◌, ◌⊎◌, Bool, false, true, List, length, take, Option, IfSome, Result, Ok, Err, ⊤, option_map}
-use Rattle.httparse.specs.Grammar.{ResponseHead, status_code}
+use Rattle.httparse.specs.Grammar.{ResponseHead, print_response, status_code}
 use Rattle.std.specs.String.{string_bytes}
 use Rattle.counted_io.specs.Device.{one_more}
 use Rattle.http_wire.specs.Fields.{framing_of, is_coded, IsLocation}
@@ -20,6 +20,7 @@ pub record Reply : Type 0 where
   pub status : ℕ
   pub location : Option (List ℕ)
   pub max_age : Option ℕ
+  pub head : List ℕ
   pub body : List ℕ
   pub cut : Bool
 
@@ -35,6 +36,7 @@ pub record GivesReply (input : List ℕ) (limit : ℕ) (reply : Reply) (rest : L
   pub status : reply.status ≡ status_code head
   pub location : IsLocation (head_fields head) reply.location
   pub max_age : HasMaxAge (head_fields head) reply.max_age
+  pub octets : reply.head ≡ print_response head
 
 -- the reply is within the longest response
 pub record Response (input : List ℕ) (limit : ℕ) (reply : Reply) : Type 0 where
@@ -88,8 +90,8 @@ abbrev pub reply_of : HttpReply → Reply
 reply_of reply = record {
   status = reply.status;
   location = option_map string_bytes reply.location;
-  max_age =
-      reply.max_age;
+  max_age = reply.max_age;
+  head = reply.head.items;
   body = reply.body.items;
   cut = reply.cut;
 }

@@ -15,9 +15,9 @@ use robots_text::is_same_word;
 /// One field of a head.
 #[derive(Clone, Copy)]
 pub(crate) struct Field<'h> {
-    name: &'h [u8],
+    pub(crate) name: &'h [u8],
     // Without surrounding white space.
-    value: &'h [u8],
+    pub(crate) value: &'h [u8],
 }
 
 /// An empty field, to fill an array with.

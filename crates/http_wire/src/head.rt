@@ -29,6 +29,8 @@ pub(crate) struct FinalHead {
     pub framing: Framing,
     pub location: Option<String>,
     pub max_age: Option<u64>,
+    /// Its octets, with its empty line and the empty lines before it.
+    pub octets: Vec<u8>,
     /// Where the body begins, counted from the start of the input.
     pub end: usize,
 }
@@ -89,7 +91,7 @@ pub(crate) struct HeadFinder {
 
 // *( line-end ) status-line line-end *( field-line line-end ) line-end, where
 // status-line = HTTP-version SP status-code [ SP reason-phrase ] and line-end = [ CR ] LF.
-fn parse(text: &[u8], headers: &mut [HeaderSpan]) -> Parsed
+pub(crate) fn parse(text: &[u8], headers: &mut [HeaderSpan]) -> Parsed
     requires short { length text.now ≤ MAX_HEAD }
     requires room { length headers.old ≡ MAX_HEADER_LINES }
     ensures parses { Parses text.now headers.new result }
@@ -263,22 +265,29 @@ fn plan(
     requires within { IsResponseWithin text.now headers.now spans }
     requires room { length headers.now ≡ MAX_HEADER_LINES }
     ensures ok { IfOk result (IsPlan spans.code
-        (map (header_bytes text.now) (take spans.headers headers.now)) end) }
+        (map (header_bytes text.now) (take spans.headers headers.now)) (take spans.len text.now) end) }
     ensures err { IfErr result (HasNoPlan spans.code
         (map (header_bytes text.now) (take spans.headers headers.now))) }
 {
     let mut slots = [EMPTY_FIELD; MAX_HEADER_LINES];
     cover(text, &headers[..spans.headers], &mut slots);
-    plan_of(alloc, spans.code, &slots[..spans.headers], end)
+    plan_of(
+        alloc,
+        spans.code,
+        &slots[..spans.headers],
+        &text[..spans.len],
+        end,
+    )
 }
 
 fn plan_of(
     alloc: Global,
     status: u16,
     fields: &[Field<'_>],
+    octets: &[u8],
     end: usize,
 ) -> Result<FinalHead, WireFault>
-    ensures ok { IfOk result (IsPlan status (pairs fields.now) end) }
+    ensures ok { IfOk result (IsPlan status (pairs fields.now) octets.now end) }
     ensures err { IfErr result (HasNoPlan status (pairs fields.now)) }
 {
     if is_coded(status, fields) {
@@ -295,6 +304,7 @@ fn plan_of(
         framing,
         location,
         max_age: max_age_of(fields),
+        octets: Vec::from_slice(alloc, octets)?,
         end,
     })
 }

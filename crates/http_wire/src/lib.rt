@@ -12,6 +12,7 @@ mod framing;
 mod freshness;
 mod head;
 mod head_scan;
+mod kept_fields;
 mod limits;
 mod line_ends;
 mod numbers;
@@ -22,6 +23,7 @@ mod response;
 mod trailers;
 
 pub use fault::WireFault;
+pub use kept_fields::KeptField;
 pub use limits::{
     MAX_HEAD, MAX_HEADER_LINES, MAX_INTERIM_HEADS, MAX_RAW, MAX_TRAILER_BYTES, MAX_TRAILERS,
 };

@@ -70,8 +70,7 @@ pub(crate) fn fill_until<S: Source, P: Part>(
     buffer: &mut Buffer,
     part: &mut P,
 ) -> Result<Reached<P::Parsed>, WireFault>
-    requires stands { P.stands part.old buffer.old }
-    requires few { length buffer.old ≤ MAX_RAW }
+    requires stands { P.stands part.old buffer.old × (length buffer.old ≤ MAX_RAW) }
     ensures kept { P.kept part.new ≡ P.kept part.old }
     ensures ok { IfOk result (Stops (P.waits part.new) (P.gives (P.kept part.old))
         (S.left source.old) (S.left source.new) buffer.old buffer.new) }

@@ -2,6 +2,7 @@
 //! RFC 9112, sections 2 and 6.
 ghost use Rattle.std.specs.Prelude.{◌≡◌, ◌+◌, ◌≤◌, [], length, IfErr, IfOk};
 ghost use Rattle.http_wire.specs.Finding.{Fails, IsFound};
+ghost use Rattle.http_wire.specs.Kept.{KeepsOf, kept_pairs};
 ghost use Rattle.http_wire.specs.Limits.{AreLimits, max_raw};
 ghost use Rattle.http_wire.specs.Reading.{Grows, TakesAtMost};
 ghost use Rattle.http_wire.specs.Response.{Finds, Tells, failures_after_reading};
@@ -10,10 +11,11 @@ use crate::body::read_body;
 use crate::buffer::Buffer;
 use crate::fault::WireFault;
 use crate::head::{FinalHead, HeadFinder};
+use crate::kept_fields::{KeptField, kept_in};
 use crate::limits::MAX_RAW;
 use crate::part::{Reached, fill_until};
 use counted_io::Source;
-use std::alloc::Global;
+use std::alloc::{AllocError, Global};
 
 /// A server's response.
 #[derive(Drop)]
@@ -24,17 +26,32 @@ pub struct HttpReply {
     pub location: Option<String>,
     /// The seconds of the first `max-age` in Cache-Control, if any.
     pub max_age: Option<u64>,
+    /// The octets of the final head, with its empty line and the empty lines before it, at most `MAX_HEAD`.
+    pub head: Vec<u8>,
     /// The octets of the body, at most the limit.
     pub body: Vec<u8>,
     /// Whether the body is longer than the limit.
     pub cut: bool,
 }
 
+impl HttpReply {
+    /// The fields of the final head that are for a client to which the page is passed on, in the head's
+    /// order: Age, Cache-Control, Content-Disposition, Content-Encoding, Content-Language,
+    /// Content-Location, Content-Type, Date, ETag, Expires, Last-Modified, Link, Location, Retry-After,
+    /// Vary and X-Robots-Tag. They are looked for in `head` at each call, and allocated.
+    pub fn kept_fields(&self, alloc: Global) -> Result<Vec<KeptField>, AllocError>
+        ensures { IfOk result (λ kept. KeepsOf self.now.head.items (kept_pairs kept.items)) }
+    {
+        kept_in(alloc, self.head.as_slice())
+    }
+}
+
 /// Reads one response, at most `limit` octets of its body. Stops reading once the response or its fault is
 /// certain; the last read may bring later octets. May wait for the source. The octets are in one buffer of
 /// 16,384 octets, which doubles up to `MAX_RAW`; while it grows, old and new may both be held. A counted
 /// body, or one to the end of the input, is handed out in that memory. One in chunks allocates its octets
-/// again, at most `limit`, and the spare room of a growing list. The text of Location is allocated besides.
+/// again, at most `limit`, and the spare room of a growing list. The final head's octets and the text of
+/// Location are allocated besides.
 pub fn read_response<S: Source>(
     alloc: Global,
     source: &mut S,
@@ -66,6 +83,7 @@ fn read_reply<S: Source>(
         status: head.status,
         location: head.location,
         max_age: head.max_age,
+        head: head.octets,
         body: body.octets,
         cut: body.cut,
     })
@@ -78,9 +96,8 @@ fn read_final<S: Source>(
     buffer: &mut Buffer,
 ) -> Result<FinalHead, WireFault>
     requires { buffer.old ≡ [] }
-    ensures found { IfOk result (IsFound buffer.new) }
+    ensures found { IfOk result (λ head. IsFound buffer.new head × (length buffer.new ≤ MAX_RAW)) }
     ensures grows { IfOk result (λ _. Grows (S.left source.old) (S.left source.new) [] buffer.new) }
-    ensures few { IfOk result (λ _. length buffer.new ≤ MAX_RAW) }
     ensures fails { IfErr result (Fails (S.left source.old) []) }
     ensures count { S.failures source.new ≡ failures_after_reading (S.failures source.old) result }
     ensures takes { TakesAtMost (max_raw + 1) (S.left source.old) (S.left source.new) }

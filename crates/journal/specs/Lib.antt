@@ -1,10 +1,10 @@
 -- The definitions for contracts, one concept a file.
 -- `crates/journal/src` has the code.
-pub mod Behind
 pub mod Crash
 pub mod Heads
 pub mod Joining
 pub mod Journal
+pub mod JournaledSink
 pub mod Parts
 pub mod Rooms
 pub mod Shelves

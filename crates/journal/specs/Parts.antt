@@ -1,23 +1,23 @@
 -- The parts of this crate's types.
 -- Cited by their contracts.
 use Rattle.std.specs.Prelude.{ℕ}
-use Rattle.journal.specs.declared.behind.Behind.{Behind}
+use Rattle.journal.specs.declared.journaled_sink.JournaledSink.{JournaledSink}
 use Rattle.journal.specs.declared.file_tape.FileTape.{FileTape}
 
 -- what comes up before each write
-abbrev pub ahead_of : {A W : Type 0} → Behind A W → A
+abbrev pub ahead_of : {A W : Type 0} → JournaledSink A W → A
 ahead_of behind = behind.ahead
 
 -- the sink inside
-abbrev pub sink_of : {A W : Type 0} → Behind A W → W
+abbrev pub sink_of : {A W : Type 0} → JournaledSink A W → W
 sink_of behind = behind.sink
 
 -- how many of its writes failed, modulo 2^64
-abbrev pub failures_of : {A W : Type 0} → Behind A W → ℕ
+abbrev pub failures_of : {A W : Type 0} → JournaledSink A W → ℕ
 failures_of behind = behind.failures
 
 -- the number of the next write, modulo 2^64
-abbrev pub number_of : {A W : Type 0} → Behind A W → ℕ
+abbrev pub number_of : {A W : Type 0} → JournaledSink A W → ℕ
 number_of behind = behind.number
 
 -- how many calls of a file failed, modulo 2^64

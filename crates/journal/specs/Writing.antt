@@ -23,8 +23,8 @@ pub record WritesText (Kind : List ℕ → Type 0) (old new : Written) (always :
   pub kept : always ≡ true → HasKept new.noted.written new.noted.kept
 
 -- what follows the place was written, up to the new place
-abbrev pub ComesUpTo : (JournalPosition → List ℕ → JournalPosition → Type 0) → Written → Written → Bool → Type 0
-ComesUpTo follows old new always = WritesText (λ text. follows old.place text new.place) old new always
+abbrev pub CatchesUpTo : (JournalPosition → List ℕ → JournalPosition → Type 0) → Written → Written → Bool → Type 0
+CatchesUpTo follows old new always = WritesText (λ text. follows old.place text new.place) old new always
 
 -- a file was begun with such a text, which a crash keeps
 pub record Begins (begins : List ℕ → JournalPosition → Type 0) (new : Written) : Type 0 where

@@ -109,7 +109,11 @@ impl<S: Shelf + Drop> GroupJournal<S> {
 
     /// Waits until the files have all entries that exist now, and a crash keeps them if the policy is
     /// `Always`. It takes no memory.
-    pub fn come_up<H: Chronicle, R: Wait>(&self, rt: &R, chronicle: &H) -> Result<(), DeviceFault> {
+    pub fn catch_up<H: Chronicle, R: Wait>(
+        &self,
+        rt: &R,
+        chronicle: &H,
+    ) -> Result<(), DeviceFault> {
         let target = chronicle.entry_count();
         for _ in rt.forever() {
             match self.take_writer(rt, target) {
@@ -117,7 +121,7 @@ impl<S: Shelf + Drop> GroupJournal<S> {
                 WriterAccess::Failed => return Err(DeviceFault),
                 WriterAccess::Taken(writer) => {
                     let mut writer = writer;
-                    let outcome = writer.come_up(chronicle, self.policy == SyncPolicy::Always);
+                    let outcome = writer.catch_up(chronicle, self.policy == SyncPolicy::Always);
                     self.put_back(rt, writer, outcome)?;
                 }
             }

@@ -3,7 +3,6 @@
 //! for it before they send: the first writes for all. A `Chronicle` gives the entries and their text.
 #![tactic(auto)]
 
-mod behind;
 mod chronicle;
 mod fault;
 mod file_tape;
@@ -12,6 +11,7 @@ mod folder;
 mod group;
 mod joined;
 mod journal;
+mod journaled_sink;
 mod last_file;
 mod memory_tape;
 mod names;
@@ -25,7 +25,6 @@ mod tape;
 mod writer;
 mod writing;
 
-pub use crate::behind::{Behind, ComesUp};
 pub use crate::chronicle::{Chronicle, Rest, Sealer, Spelled};
 pub use crate::fault::{FolderFault, JournalFault};
 pub use crate::file_tape::FileTape;
@@ -33,11 +32,12 @@ pub use crate::folder::Folder;
 pub use crate::group::{FILE_OCTETS, GroupJournal};
 pub use crate::joined::{Joined, JoinedLine};
 pub use crate::journal::Journal;
+pub use crate::journaled_sink::{CatchesUp, JournaledSink};
 pub use crate::last_file::{FileLine, LastFile};
 pub use crate::memory_tape::MemoryTape;
 pub use crate::names::file_name;
 pub use crate::policy::SyncPolicy;
 pub use crate::position::JournalPosition;
-pub use crate::recorder::{Abreast, Recorder, Unrecorded};
+pub use crate::recorder::{CaughtUp, Recorder, Unrecorded};
 pub use crate::shelf::{BegunFile, Shelf};
 pub use crate::tape::{Tape, append_all};

@@ -2,9 +2,9 @@
 //! A server has one for each client's stream, and one for its fetcher.
 ghost use Rattle.std.specs.Prelude.{⊤};
 
-use crate::behind::ComesUp;
 use crate::chronicle::{Chronicle, Sealer};
 use crate::group::GroupJournal;
+use crate::journaled_sink::CatchesUp;
 use crate::shelf::Shelf;
 use counted_io::DeviceFault;
 use std::sync::Wait;
@@ -12,7 +12,7 @@ use std::sync::Wait;
 /// Records a chronicle, or does nothing.
 pub trait Recorder {
     /// Waits until all entries may be sent.
-    fn come_up<H: Chronicle, R: Wait>(&self, rt: &R, chronicle: &H) -> Result<(), DeviceFault>;
+    fn catch_up<H: Chronicle, R: Wait>(&self, rt: &R, chronicle: &H) -> Result<(), DeviceFault>;
 
     /// Seals, and begins a new file.
     fn seal<H: Chronicle, R: Wait, K: Sealer>(
@@ -39,7 +39,7 @@ pub trait Recorder {
 pub struct Unrecorded;
 
 impl Recorder for Unrecorded {
-    fn come_up<H: Chronicle, R: Wait>(&self, _rt: &R, _chronicle: &H) -> Result<(), DeviceFault> {
+    fn catch_up<H: Chronicle, R: Wait>(&self, _rt: &R, _chronicle: &H) -> Result<(), DeviceFault> {
         Ok(())
     }
 
@@ -66,8 +66,8 @@ impl Recorder for Unrecorded {
 }
 
 impl<S: Shelf + Drop> Recorder for GroupJournal<S> {
-    fn come_up<H: Chronicle, R: Wait>(&self, rt: &R, chronicle: &H) -> Result<(), DeviceFault> {
-        GroupJournal::come_up(self, rt, chronicle)
+    fn catch_up<H: Chronicle, R: Wait>(&self, rt: &R, chronicle: &H) -> Result<(), DeviceFault> {
+        GroupJournal::catch_up(self, rt, chronicle)
     }
 
     fn seal<H: Chronicle, R: Wait, K: Sealer>(
@@ -88,23 +88,23 @@ impl<S: Shelf + Drop> Recorder for GroupJournal<S> {
     }
 
     fn see_to<H: Chronicle, R: Wait>(&self, rt: &R, chronicle: &H) -> Result<(), DeviceFault> {
-        GroupJournal::come_up(self, rt, chronicle)?;
+        GroupJournal::catch_up(self, rt, chronicle)?;
         self.tend(rt)
     }
 }
 
 /// A chronicle and its recorder.
 #[derive(Drop)]
-pub struct Abreast<'a, H: Chronicle, J: Recorder, R: Wait> {
+pub struct CaughtUp<'a, H: Chronicle, J: Recorder, R: Wait> {
     pub rt: &'a R,
     pub chronicle: &'a H,
     pub journal: &'a J,
 }
 
-impl<'a, H: Chronicle, J: Recorder, R: Wait> ComesUp for Abreast<'a, H, J, R> {
+impl<'a, H: Chronicle, J: Recorder, R: Wait> CatchesUp for CaughtUp<'a, H, J, R> {
     ghost comes = { λ _ _ _. ⊤ };
 
-    fn come_up(&self, _number: u64) -> Result<(), DeviceFault> {
-        self.journal.come_up(self.rt, self.chronicle)
+    fn catch_up(&self, _number: u64) -> Result<(), DeviceFault> {
+        self.journal.catch_up(self.rt, self.chronicle)
     }
 }

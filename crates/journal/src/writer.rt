@@ -4,7 +4,7 @@ ghost use Rattle.std.specs.Prelude.{◌≡◌, ◌≢◌, [], IfOk, OnOk, false,
 ghost use Rattle.journal.specs.Crash.{HasKept};
 ghost use Rattle.journal.specs.Journal.{Writes};
 ghost use Rattle.journal.specs.declared.policy.SyncPolicy.TheVariants as SyncPolicy;
-ghost use Rattle.journal.specs.Writing.{Begins, ComesUpTo, IsRest, WritesText};
+ghost use Rattle.journal.specs.Writing.{Begins, CatchesUpTo, IsRest, WritesText};
 
 use crate::chronicle::{Chronicle, Rest, Sealer, Spelled};
 use crate::fault::JournalFault;
@@ -130,8 +130,12 @@ impl<S: Shelf> Writer<S> {
     }
 
     // Formats and writes the next piece of what is missing.
-    pub fn come_up<H: Chronicle>(&mut self, chronicle: &H, always: bool) -> Result<(), JournalFault>
-        ensures { OnOk result (ComesUpTo (H.follows chronicle.now) self.old self.new always) }
+    pub fn catch_up<H: Chronicle>(
+        &mut self,
+        chronicle: &H,
+        always: bool,
+    ) -> Result<(), JournalFault>
+        ensures { OnOk result (CatchesUpTo (H.follows chronicle.now) self.old self.new always) }
     {
         let (text, place) = self.spell(chronicle)?;
         self.write(text.as_slice(), always)?;

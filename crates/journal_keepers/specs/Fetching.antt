@@ -1,5 +1,5 @@
 -- A fetch that first waits for something else.
--- Used by `FetchesBehind`.
+-- Used by `JournaledFetcher`.
 use Rattle.std.specs.Prelude.{◌≡◌, ◌⊎◌, Result, Ok, Err}
 use Rattle.counted_io.specs.declared.fault.DeviceFault.{DeviceFault}
 use Rattle.http_wire.specs.declared.fault.WireFault.{WireFault}

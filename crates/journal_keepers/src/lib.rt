@@ -2,11 +2,11 @@
 //! (docs/SEALING.md).
 #![tactic(auto)]
 
-mod fetches_behind;
 mod journal_records;
+mod journaled_fetcher;
 mod lent_desk;
 mod looks;
 
-pub use crate::fetches_behind::FetchesBehind;
 pub use crate::journal_records::JournalRecords;
+pub use crate::journaled_fetcher::JournaledFetcher;
 pub use crate::looks::Looks;

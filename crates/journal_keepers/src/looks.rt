@@ -30,7 +30,7 @@ impl Looks {
         if is_last || self.count.is_multiple_of(self.per_sync) {
             journal.see_to(rt, chronicle)
         } else {
-            journal.come_up(rt, chronicle)
+            journal.catch_up(rt, chronicle)
         }
     }
 }

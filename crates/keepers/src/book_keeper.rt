@@ -8,7 +8,7 @@ use authority_cache::StandingAnswer;
 use crawl_job::{Job, Outcome};
 use gate_core::{AskRefusal, BeginRefusal, Book, Denial, NoMemory, Standing, Started, State};
 use gate_history::{Reason, Segment};
-use page_worker::Clock;
+use page_worker::{Clock, PageVisit};
 use path_normal::{Authority, PageUrl, Schemes};
 use permit_book::{NotOut, PermitNo};
 use robots_text::Token;
@@ -59,6 +59,7 @@ impl<'a> Keeper for BookKeeper<'a> {
       refreshes =
           λ _ k _ result k2. (k2.book.ghost_name ≡ k.book.ghost_name) × OffersNone k.book.now result k2.book.now;
       fetches = λ _ k _ result k2. (k2.book.ghost_name ≡ k.book.ghost_name) × OffersNone k.book.now result k2.book.now;
+      visits = λ _ k _ result k2. (k2.book.ghost_name ≡ k.book.ghost_name) × OffersNone k.book.now result k2.book.now;
       seals = λ k result k2. (k2.book.ghost_name ≡ k.book.ghost_name) × Seals k.book.now result k2.book.now;
       ends = λ k k2. k2 ≡ k;
     } };
@@ -131,6 +132,10 @@ impl<'a> Keeper for BookKeeper<'a> {
         _job: Job,
         _clock: &C,
     ) -> Option<Result<Outcome, NoMemory>> {
+        None
+    }
+
+    fn visit<C: Clock>(&mut self, _alloc: Global, _job: Job, _clock: &C) -> Option<PageVisit> {
         None
     }
 

@@ -5,7 +5,7 @@ ghost use Rattle.permit_bag.specs.Bags.{held_in};
 ghost use Rattle.gate_lock.specs.Desks.{IsNew, out_of};
 ghost use Rattle.keepers.specs.Bounding.{are_all, has_enough, made_since};
 ghost use Rattle.page_worker.specs.World.{world_of};
-ghost use Rattle.keepers.specs.DeskKeeping.{Behind, IsClosed, KeeperAsks, KeeperFetches, KeeperRefreshes, MayCondense};
+ghost use Rattle.keepers.specs.DeskKeeping.{Behind, IsClosed, KeeperAsks, KeeperRefreshes, MayCondense};
 
 use crate::answers::standing_answer;
 use crate::bounds::Bounds;
@@ -15,12 +15,12 @@ use crate::keeper::Keeper;
 use crate::no_keeper::NoKeeper;
 use crate::records::{DeskRecords, NoRecords};
 use authority_cache::StandingAnswer;
-use crawl_job::{Job, Outcome, Refusal};
+use crawl_job::{Hop, Job, Outcome, Refusal};
 use fetchers::Fetcher;
 use gate_core::{AskRefusal, BeginRefusal, Denial, NoMemory, Standing, State};
 use gate_history::{Reason, Segment};
 use gate_lock::{Desk, Gate, GateLock, Receipts};
-use page_worker::{Clock, is_unknown, refresh_within, work_within};
+use page_worker::{Clock, PageVisit, is_unknown, refresh_within};
 use path_normal::{Authority, PageUrl, Schemes};
 use permit_bag::Bag;
 use permit_book::{NotOut, PermitNo};
@@ -32,16 +32,16 @@ use std::sync::Wait;
 /// its own. It has no `Drop`: `close` makes receipts of it.
 #[must_use]
 pub struct DeskKeeper<'a, 'g, G: Gate, F: Fetcher, R: Wait, N: DeskRecords + Drop> {
-    rt: &'a R,
-    fetcher: &'a F,
-    records: N,
-    bounds: Bounds,
+    pub(crate) rt: &'a R,
+    pub(crate) fetcher: &'a F,
+    pub(crate) records: N,
+    pub(crate) bounds: Bounds,
     // How many more authorities the session may make known.
-    newcomers: u64,
+    pub(crate) newcomers: u64,
     // How many entries the desk had made when the session began.
-    begun: u64,
-    desk: Desk<'g, G>,
-    bag: Bag<G>,
+    pub(crate) begun: u64,
+    pub(crate) desk: Desk<'g, G>,
+    pub(crate) bag: Bag<G>,
     ghost is_of: { bag.desk ≡ desk.no },
     ghost balances: { out_of desk ≡ held_in bag },
 }
@@ -100,8 +100,8 @@ impl<'a, 'g, G: Gate, F: Fetcher, R: Wait, N: DeskRecords + Drop> DeskKeeper<'a,
         }
     }
 
-    // Condenses the desk's marks if there is no room for the next ones.
-    fn make_way(&mut self)
+    /// Condenses the desk's marks if there is no room for the next ones.
+    pub(crate) fn make_way(&mut self)
         ensures rest { (self.new.fetcher ≡ self.old.fetcher) × (self.new.records ≡ self.old.records)
             × (self.new.bounds ≡ self.old.bounds) × (self.new.begun ≡ self.old.begun) }
         ensures newcomers { self.new.newcomers ≡ self.old.newcomers }
@@ -161,35 +161,6 @@ impl<'a, 'g, G: Gate, F: Fetcher, R: Wait, N: DeskRecords + Drop> DeskKeeper<'a,
         )
     }
 
-    fn fetch_desk<C: Clock>(
-        &mut self,
-        alloc: Global,
-        job: Job,
-        clock: &C,
-    ) -> Result<Outcome, NoMemory>
-        ensures rest { (self.new.fetcher ≡ self.old.fetcher) × (self.new.records ≡ self.old.records)
-            × (self.new.bounds ≡ self.old.bounds) × (self.new.begun ≡ self.old.begun) }
-        ensures newcomers { self.new.newcomers ≤ self.old.newcomers }
-        ensures fetches { Behind self.old.desk (λ d. KeeperFetches
-            (world_of (F.gives self.old.fetcher.now) (F.follows self.old.fetcher.now) (C.reads clock.now))
-            d self.old.bag job (Some result) self.new.desk self.new.bag) }
-    {
-        self.make_way();
-        let newcomers = &mut self.newcomers;
-        match work_within(
-            self.rt,
-            alloc,
-            job,
-            &mut self.desk,
-            self.fetcher,
-            clock,
-            newcomers,
-        ) {
-            Ok(outcome) => Ok(outcome),
-            Err(_) => Err(NoMemory),
-        }
-    }
-
     // Whether the session made as many entries as it may.
     fn has_entries(&self) -> bool
         ensures { result ≡ has_enough self.now.bounds.entries
@@ -224,12 +195,12 @@ impl<'a, 'g, G: Gate, F: Fetcher, R: Wait, N: DeskRecords + Drop> Keeper
     ghost use Rattle.permit_bag.specs.Bags.{BagFinishes, BagReturns, BagStarts, IsUrlIn};
     ghost use Rattle.page_worker.specs.World.{world_of};
     ghost use Rattle.gate_lock.specs.Desks.{out_of};
-    ghost use Rattle.keepers.specs.Bounding.{Bounded, BoundedFetch, RefusesAsk, RefusesFetch, RefusesRefresh, has_enough, made_since};
+    ghost use Rattle.keepers.specs.Bounding.{Bounded, BoundedFetch, RefusesAsk, RefusesFetch, RefusesRefresh, RefusesVisit, has_enough, made_since};
     ghost use Rattle.gate_core.specs.declared.refusal.AskRefusal.TheVariants as asks;
     ghost use Rattle.crawl_job.specs.declared.hop.Refusal.TheVariants as hops;
     ghost use Rattle.keepers.specs.Rooms.{InRoom, RefusesSeal};
     ghost use Rattle.keepers.specs.Counting.{AnswersSome, CountsSome};
-    ghost use Rattle.keepers.specs.DeskKeeping.{Behind, KeeperAsks, KeeperEnds, KeeperFetches, KeeperReads, KeeperRefreshes, KeeperSeals};
+    ghost use Rattle.keepers.specs.DeskKeeping.{Behind, KeeperAsks, KeeperEnds, KeeperFetches, KeeperReads, KeeperRefreshes, KeeperSeals, KeeperVisits};
 
     ghost deals = { record {
       can_fetch = λ _. true;
@@ -279,6 +250,17 @@ impl<'a, 'g, G: Gate, F: Fetcher, R: Wait, N: DeskRecords + Drop> Keeper
           (λ d. Behind d (λ d1. KeeperFetches
           (world_of (F.gives k.fetcher.now) (F.follows k.fetcher.now) reads)
           d1 k.bag job told k2.desk k2.bag))));
+      visits = λ reads k job told k2. ((k2.fetcher ≡ k.fetcher) × (k2.records ≡ k.records)
+          × (k2.bounds ≡ k.bounds) × (k2.begun ≡ k.begun) × (k2.newcomers ≤ k.newcomers))
+          × InRoom (N.rooms k.records)
+          ((k2.newcomers ≡ k.newcomers)
+          × RefusesVisit hops.LogFull k.desk k.bag told k2.desk k2.bag)
+          (Bounded (has_enough k.bounds.entries (made_since k.begun k.desk))
+          ((k2.newcomers ≡ k.newcomers)
+          × RefusesVisit hops.LogFull k.desk k.bag told k2.desk k2.bag)
+          (Behind k.desk (λ d. KeeperVisits
+          (world_of (F.gives k.fetcher.now) (F.follows k.fetcher.now) reads)
+          d k.bag job k.newcomers told k2.desk k2.bag)));
       seals = λ k result k2. ((k2.fetcher ≡ k.fetcher) × (k2.records ≡ k.records)
           × (k2.bounds ≡ k.bounds) × (k2.begun ≡ k.begun) × (k2.newcomers ≡ k.newcomers))
           × InRoom (N.rooms k.records) (RefusesSeal k.desk k.bag result k2.desk k2.bag)
@@ -372,6 +354,13 @@ impl<'a, 'g, G: Gate, F: Fetcher, R: Wait, N: DeskRecords + Drop> Keeper
             return Some(refused_fetch(alloc, Refusal::AuthoritiesFull));
         }
         Some(self.fetch_desk(alloc, job, clock))
+    }
+
+    fn visit<C: Clock>(&mut self, alloc: Global, job: Job, clock: &C) -> Option<PageVisit> {
+        if !self.records.has_room() || self.has_entries() {
+            return Some(PageVisit::without(Hop::Err(Refusal::LogFull)));
+        }
+        Some(self.visit_desk(alloc, job, clock))
     }
 
     /// The records seal at the desk, if they have room.

@@ -7,7 +7,7 @@ use authority_cache::StandingAnswer;
 use crawl_job::{Job, Outcome};
 use gate_core::{AskRefusal, BeginRefusal, Denial, NoMemory, Standing, State};
 use gate_history::{Reason, Segment};
-use page_worker::Clock;
+use page_worker::{Clock, PageVisit};
 use path_normal::{Authority, PageUrl, Schemes};
 use permit_book::{NotOut, PermitNo};
 use robots_text::Token;
@@ -87,6 +87,11 @@ pub trait Keeper {
         clock: &C,
     ) -> Option<Result<Outcome, NoMemory>>
         ensures { deals.fetches (C.reads clock.now) self.old job result self.new };
+
+    /// Fetches the page of a job once, and hands out its response; no redirect is followed. None if it
+    /// fetches nothing.
+    fn visit<C: Clock>(&mut self, alloc: Global, job: Job, clock: &C) -> Option<PageVisit>
+        ensures { deals.visits (C.reads clock.now) self.old job result self.new };
 
     /// Hands out the gate's entries since the last seal, of all sessions, with what they follow.
     fn seal(&mut self) -> Result<Segment, NoMemory>

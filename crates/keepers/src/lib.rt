@@ -8,6 +8,7 @@ mod bounds;
 mod counts;
 mod desk_keeper;
 mod fetch_refusal;
+mod fetching;
 mod fetching_anew;
 mod keeper;
 mod no_keeper;

@@ -10,7 +10,7 @@ use command_server::{FirstLine, NumberedClock, serve_overseer};
 use counted_io::{Counted, DeviceFault};
 use fetchers::Fetcher;
 use gate_lock::{Gate, Receipts};
-use journal::{Behind, Recorder};
+use journal::{JournaledSink, Recorder};
 use keepers::{Bounds, DeskKeeper, DeskRecords, Keeper};
 use std::cell::Cell;
 use std::io::{Read, Write};
@@ -31,7 +31,7 @@ impl<F: Fetcher, C: NumberedClock, A: Alarm, R: Wait + time::Clock> Server<'_, F
         listener: &Listener,
         left: &AtomicU64,
     ) -> Result<Receipts<G>, ServeFault> {
-        let fetcher = recorded.behind(self.fetcher);
+        let fetcher = recorded.journaled(self.fetcher);
         self.oversee_at_desk(recorded, listener, left, &fetcher, recorded.records())
     }
 
@@ -71,7 +71,7 @@ impl<F: Fetcher, C: NumberedClock, A: Alarm, R: Wait + time::Clock> Server<'_, F
             match overseers.accept() {
                 Ok(stream) => {
                     self.serve_one(recorded, &overseers, stream, keeper);
-                    recorded.journal.come_up(self.rt, &recorded.chronicle)?;
+                    recorded.journal.catch_up(self.rt, &recorded.chronicle)?;
                 }
                 Err(AcceptFault::Want) => {}
                 Err(AcceptFault::Client | AcceptFault::Device) => {
@@ -111,7 +111,7 @@ impl<F: Fetcher, C: NumberedClock, A: Alarm, R: Wait + time::Clock> Server<'_, F
         keeper: &mut K,
     ) {
         let mut reader = Counted::new(reader);
-        let mut writer = Behind::new(recorded.abreast(), Counted::new(writer));
+        let mut writer = JournaledSink::new(recorded.caught_up(), Counted::new(writer));
         let first = FirstLine::NoRequest;
         let _ = serve_overseer(
             self.alloc,

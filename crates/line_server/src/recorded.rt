@@ -3,8 +3,8 @@
 use command_server::Visits;
 use gate_journal::Recording;
 use gate_lock::{Gate, GateLock};
-use journal::{Abreast, Recorder};
-use journal_keepers::{FetchesBehind, JournalRecords};
+use journal::{CaughtUp, Recorder};
+use journal_keepers::{JournalRecords, JournaledFetcher};
 use std::sync::Wait;
 
 /// A gate, its journal, and the clients of its server.
@@ -17,13 +17,13 @@ pub(crate) struct Recorded<'a, G: Gate, J: Recorder, R: Wait> {
 }
 
 impl<'a, G: Gate, J: Recorder, R: Wait> Recorded<'a, G, J, R> {
-    /// The fetcher of a desk, behind the journal.
-    pub(crate) fn behind<'b, F>(
+    /// The fetcher of a desk, which waits for the journal.
+    pub(crate) fn journaled<'b, F>(
         &'b self,
         fetcher: &'b F,
-    ) -> FetchesBehind<'b, Abreast<'b, Recording<'a, G, R>, J, R>, F> {
-        FetchesBehind {
-            ahead: self.abreast(),
+    ) -> JournaledFetcher<'b, CaughtUp<'b, Recording<'a, G, R>, J, R>, F> {
+        JournaledFetcher {
+            ahead: self.caught_up(),
             fetcher,
         }
     }
@@ -37,8 +37,8 @@ impl<'a, G: Gate, J: Recorder, R: Wait> Recorded<'a, G, J, R> {
     }
 
     /// What records before each write to a client, and before each fetch.
-    pub(crate) fn abreast(&self) -> Abreast<'_, Recording<'a, G, R>, J, R> {
-        Abreast {
+    pub(crate) fn caught_up(&self) -> CaughtUp<'_, Recording<'a, G, R>, J, R> {
+        CaughtUp {
             rt: self.chronicle.rt,
             chronicle: &self.chronicle,
             journal: self.journal,

@@ -22,7 +22,7 @@ impl<F: Fetcher, C: NumberedClock, A: Alarm, R: Wait + time::Clock> Server<'_, F
         left: &AtomicU64,
         sites: &[Authority],
     ) -> Result<Receipts<G>, ServeFault> {
-        let (gate, fetcher) = (recorded.gate, recorded.behind(self.fetcher));
+        let (gate, fetcher) = (recorded.gate, recorded.journaled(self.fetcher));
         let clock = FetchClock {
             clock: self.clock,
             number: 0,

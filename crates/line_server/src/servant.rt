@@ -12,7 +12,7 @@ use command_server::{FirstLine, NumberedClock, serve_from};
 use counted_io::{Counted, DeviceFault};
 use fetchers::Fetcher;
 use gate_lock::{Gate, Receipts};
-use journal::{Behind, Recorder};
+use journal::{JournaledSink, Recorder};
 use keepers::{DeskKeeper, DeskRecords, Keeper};
 use std::cell::Cell;
 use std::io::{Read, Write};
@@ -30,7 +30,7 @@ impl<F: Fetcher, C: NumberedClock, A: Alarm, R: Wait + time::Clock> Server<'_, F
         left: &AtomicU64,
         numbers: ConnectionNumbers<'_>,
     ) -> Result<(u64, Receipts<G>), ServeFault> {
-        let fetcher = recorded.behind(self.fetcher);
+        let fetcher = recorded.journaled(self.fetcher);
         let end = self.serve_at_desk(recorded, numbers, &fetcher, recorded.records());
         left.fetch_sub(1, Ordering::SeqCst);
         end
@@ -92,7 +92,7 @@ impl<F: Fetcher, C: NumberedClock, A: Alarm, R: Wait + time::Clock> Server<'_, F
             self.serve_client(recorded, stream, keeper);
             recorded.visits.leave();
             // If what the client left can't be recorded, no other is served.
-            recorded.journal.come_up(self.rt, &recorded.chronicle)?;
+            recorded.journal.catch_up(self.rt, &recorded.chronicle)?;
         }
         Ok(())
     }
@@ -141,7 +141,7 @@ impl<F: Fetcher, C: NumberedClock, A: Alarm, R: Wait + time::Clock> Server<'_, F
         keeper: &mut K,
     ) {
         let mut reader = Counted::new(reader);
-        let mut writer = Behind::new(recorded.abreast(), Counted::new(writer));
+        let mut writer = JournaledSink::new(recorded.caught_up(), Counted::new(writer));
         let first = FirstLine::NoRequest;
         let _ = serve_from(
             self.alloc,

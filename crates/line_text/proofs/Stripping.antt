@@ -3,16 +3,8 @@
 use Rattle.std.proofs.Common.{◌≡◌, ◌≢◌, ◌<◌, ◌≤◌, ◌+◌, ◌==◌, ℕ, suc, Bool, false, arith, IsTrue, length-append, List, [], ◌∷◌, ◌++◌, length, take, drop, get_or, flat_map, ap, sym, ◌∙◌, append_assoc, append-nil}
 use Rattle.std.proofs.lemmas.Bool.{true≢false}
 use Rattle.std.proofs.lemmas.Bool.Decides.{nat_tests}
-use Rattle.std.proofs.lemmas.List.{append_cancel_left, flat_map_more, take_all, take_more}
+use Rattle.std.proofs.lemmas.List.{append_cancel_left, take_all}
 use Rattle.line_text.proofs.Pushing.{cut_at}
-
-pub row_stripped : {X : Type 0} (f : X → List ℕ) (xs : List X) (i : ℕ) (d : X) (text rest behind : List ℕ) → i < length xs →
-    text ≡ flat_map f (take i xs) ++ rest → rest ≡ f (get_or xs i d) ++ behind →
-    text ≡ flat_map f (take (i + 1) xs) ++ behind
-row_stripped f xs i d text rest behind within before this =
-    before ∙ ap (λ l. flat_map f (take i xs) ++ l) this
-    ∙ sym (append_assoc (flat_map f (take i xs)) (f (get_or xs i d)) behind)
-    ∙ ap (λ l. l ++ behind) (flat_map_more f [] (take i xs) (get_or xs i d) ∙ ap (flat_map f) (sym (take_more xs i d within)))
 
 pub row_lacks : {X : Type 0} (f : X → List ℕ) (xs : List X) (i : ℕ) (d : X) (text rest : List ℕ) → i < length xs →
     text ≡ flat_map f (take i xs) ++ rest → ((behind : List ℕ) → rest ≢ f (get_or xs i d) ++ behind) →

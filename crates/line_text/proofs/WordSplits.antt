@@ -46,6 +46,3 @@ words_of_found text place found =
     let at = position-Some is_space text place 0 found in
     let first : position_or_len is_space text ≡ place = position_or_len_is is_space text place 0 (omega (arith, at.0)) at.2 (λ _. at.1) in
     subst (λ n. words_of text ≡ take n text ∷ words_of (drop (n + 1) text)) first (words_of_more text (omega (arith, first, at.0)))
-
-pub words_of_cut : (text word rest : List ℕ) → (position_or_len is_space text < length text) × (word ≡ before_first is_space text) × (rest ≡ after_first is_space text) → words_of text ≡ word ∷ words_of rest
-words_of_cut text word rest h = let e = words_of_more text h.0 in let a = h.1 in let b = h.2 in cc

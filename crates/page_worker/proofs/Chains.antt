@@ -6,7 +6,7 @@ use Rattle.gate_history.specs.declared.entry.Entry.{Entry}
 use Rattle.robots_fetch.specs.Redirects.{most_redirects}
 use Rattle.crawl_job.specs.declared.hop.Hop.{Hop}
 use Rattle.page_worker.specs.declared.way_on.WayOn.TheVariants as ways
-use Rattle.page_worker.specs.Outcomes.{AfterRefresh, AreHops, FollowsHops, IsFollowed, IsLastHop, IsStopped}
+use Rattle.page_worker.specs.Outcomes.{AfterRefresh, AreHops, FollowsHops, IsFollowed, IsStopped}
 use Rattle.page_worker.specs.Refreshes.{entries_of}
 use Rattle.page_worker.specs.WaysOn.{AddsEntries, TellsWay}
 use Rattle.page_worker.specs.World.{World}
@@ -60,12 +60,6 @@ pub record HasCome
   pub follows : FollowsHops world token url way end own
   pub few : length way ≤ most_redirects
 
-pub begin_chain : (world : World) (token url : List ℕ) (way : List Hop) (desk : DeskView) →
-    way ≡ [] → HasCome world token url way url desk desk
-begin_chain world token url way desk empty =
-    subst (λ (hs : List Hop). HasCome world token url hs url desk desk) (sym empty)
-    (record { own = []; adds = sym (append-nil (entries_of desk.marks)); follows = (refl, refl); few = omega arith })
-
 pub come_on : (world : World) (token url mid next : List ℕ) (way all : List Hop)
     (hop : Hop) (followed : ℕ) (old now new : DeskView) → followed ≡ length way → all ≡ way ++ hop ∷ [] →
     HasCome world token url way mid old now →
@@ -80,27 +74,6 @@ come_on world token url mid next way all hop followed old now new count is come 
       follows = follows_more world token url mid next way hop come.own added.own come.follows after;
       few = omega (arith, length-append way (hop ∷ []), added.tells.tells.1, count);
     })
-
-pub come_to_end : (world : World) (token url mid : List ℕ) (way : List Hop)
-    (hop : Hop) (body : List ℕ) (old now new : DeskView) → HasCome world token url way mid old now →
-    AddsEntries (AfterRefresh world mid (IsLastHop world token mid hop body)) now new →
-    AddsEntries (AreHops world token url (way ++ hop ∷ []) body) old new
-come_to_end world token url mid way hop body old now new come added = record {
-  own = come.own ++ added.own;
-  adds = appended (entries_of old.marks) (entries_of now.marks) (entries_of new.marks) come.own added.own come.adds added.adds;
-  tells = record {
-    way = way;
-    last = hop ∷ [];
-    end = mid;
-    front = come.own;
-    back = added.own;
-    are_all = refl;
-    are_few = come.few;
-    follows = come.follows;
-    ends = added.tells;
-    own_is = refl;
-  };
-}
 
 pub come_to_stop : (world : World) (token url mid : List ℕ) (way more all : List Hop)
     (hop stop : Hop) (body : List ℕ) (followed : ℕ) (old now new : DeskView) → followed ≡ length way →

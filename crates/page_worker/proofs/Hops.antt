@@ -1,6 +1,6 @@
 -- The entries of one hop, from those of the desk's steps.
 -- Used by the answers of `Worker`.
-use Rattle.std.proofs.Common.{◌≡◌, ◌<◌, ◌++◌, ◌∷◌, [], ℕ, Bool, true, false, List, Result, Ok, Err, Option, refl, sym, ap, ◌∙◌, subst, arith, inl, inr, append-nil, nat_lt}
+use Rattle.std.proofs.Common.{◌≡◌, ◌<◌, ◌++◌, ◌∷◌, [], ℕ, Bool, true, false, List, Result, Ok, Err, Option, refl, sym, ap, subst, arith, inl, inr, append-nil, nat_lt}
 use Rattle.std.specs.Prelude.{if◌then◌else◌}
 use Rattle.std.proofs.lemmas.Bool.{ltb-true}
 use Rattle.path_normal.specs.PageText.{authority_of}
@@ -26,28 +26,20 @@ use Rattle.crawl_job.specs.declared.hop.Hop.TheVariants as hops
 use Rattle.crawl_job.specs.declared.hop.Refusal.{Refusal}
 use Rattle.page_worker.specs.declared.way_on.WayOn.{WayOn}
 use Rattle.page_worker.specs.declared.way_on.WayOn.TheVariants as ways
-use Rattle.page_worker.specs.Outcomes.{AfterRefresh, IsFetch, IsLastHop, IsRedirect, MayRefresh, body_given, hop_of, location_given}
+use Rattle.page_worker.specs.Outcomes.{AfterRefresh, IsFetch, IsLastHop, IsRedirect, IsTurn, MayRefresh, body_given, hop_of, location_given}
 use Rattle.fetchers.specs.Limits.{robots_limit}
 use Rattle.page_worker.specs.Limits.{page_limit}
-use Rattle.page_worker.specs.Refreshes.{BeginsStale, Brings, DoesNothing, IsBrought, entries_of}
+use Rattle.page_worker.specs.Refreshes.{BeginsStale, Brings, IsBrought, entries_of}
 use Rattle.page_worker.specs.WaysOn.{AddsEntries, GoesOn, TellsWay, ask_hop}
 use Rattle.page_worker.specs.World.{IsSinceRead, World}
 use Rattle.page_worker.proofs.OwnEntries.{appended, looked, made}
 
-nothing_made : (world : World) (authority : List ℕ) (old new : DeskView) →
-    entries_of new.marks ≡ entries_of old.marks ++ [] → AddsEntries (MayRefresh world authority) old new
-nothing_made world authority old new is = record { own = []; adds = is; tells = inl refl }
-
-pub did_nothing : (world : World) (authority : List ℕ) (old new : DeskView) → DoesNothing old new → AddsEntries (MayRefresh world authority) old new
-did_nothing world authority old new is =
-    nothing_made world authority old new (is.entries_stay ∙ sym (append-nil (entries_of old.marks)))
-
 pub since : (world : World) (g : Gate) (m : ℕ) → world.reads m → IsSinceRead world (moment_at g m)
 since world g m reads = (m, (reads, omega arith))
 
-pub refreshed : (world : World) (authority : List ℕ) (turn : Errand) (word : Standing) (old mid new : DeskView) →
-    BeginsStale world authority turn old mid → Brings world turn word mid new → AddsEntries (MayRefresh world authority) old new
-refreshed world authority turn word old mid new begins brings =
+pub answer_brought : (world : World) (authority : List ℕ) (turn : Errand) (word : Standing) (old mid new : DeskView) →
+    BeginsStale world authority turn old mid → Brings world turn word mid new → AddsEntries (IsTurn world authority) old new
+answer_brought world authority turn word old mid new begins brings =
     let h = brings.arrives.0 in
     let other = made mid h _ new brings.arrives.1.1.1.1 in
     let its_authority : turn.authority ≡ authority = ap (λ (t : Errand). t.authority) begins.turn_is in
@@ -60,7 +52,7 @@ refreshed world authority turn word old mid new begins brings =
           (entries.Arrived (moment_at h brings.arrived) authority turn.turn brings.answer.says brings.answer.life ∷ []) begins.adds
           (subst (λ name. entries_of new.marks ≡ entries_of mid.marks ++ entries.Arrived (moment_at h brings.arrived) name turn.turn brings.answer.says brings.answer.life ∷ [])
           its_authority other);
-      tells = inr (record {
+      tells = record {
         begun = begins.begun;
         turn = turn.turn;
         arrived = moment_at h brings.arrived;
@@ -71,8 +63,14 @@ refreshed world authority turn word old mid new begins brings =
         stale = begins.stale;
         brings = brought;
         own_is = refl;
-      });
+      };
     }
+
+pub refreshed : (world : World) (authority : List ℕ) (turn : Errand) (word : Standing) (old mid new : DeskView) →
+    BeginsStale world authority turn old mid → Brings world turn word mid new → AddsEntries (MayRefresh world authority) old new
+refreshed world authority turn word old mid new begins brings =
+    let brought = answer_brought world authority turn word old mid new begins brings in
+    record { own = brought.own; adds = brought.adds; tells = inr brought.tells }
 
 pub behind_refresh : (world : World) (url : List ℕ) (Tells : List Entry → Type 0)
     (old mid new : DeskView) → AddsEntries (MayRefresh world (authority_of url)) old mid → AddsEntries Tells mid new →

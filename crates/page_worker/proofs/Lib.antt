@@ -4,4 +4,5 @@ mod Fetching
 mod Hops
 mod InForce
 mod OwnEntries
+mod Seeing
 pub mod Starting

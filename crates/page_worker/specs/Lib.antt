@@ -6,5 +6,6 @@ pub mod OutcomeLaws
 pub mod Outcomes
 pub mod Refreshes
 pub mod Stale
+pub mod Visits
 pub mod WaysOn
 pub mod World

@@ -1,11 +1,11 @@
 -- Turns where only so many more authorities may become known: those without an answer, of any age.
 -- Used by refreshes, jobs and the keepers of sessions; docs/FORMATS.md, `ERR authorities`.
 use Rattle.std.specs.Prelude.{◌≡◌, ◌⊎◌, ◌≤◌, ℕ, suc, Bool, true, false, List, Option, None, Some, Result, Ok, Err}
-use Rattle.gate_history.specs.Standing.{standing_of}
+use Rattle.gate_history.specs.Standing.{is_fetching, standing_of}
 use Rattle.gate_core.specs.declared.refusal.BeginRefusal.{BeginRefusal}
 use Rattle.gate_core.specs.declared.refusal.BeginRefusal.TheVariants as begin
 use Rattle.gate_core.specs.declared.state.Standing.{Standing}
-use Rattle.gate_core.specs.Gate.{Gate, history}
+use Rattle.gate_core.specs.Gate.{Gate, IsFull, history}
 use Rattle.gate_core.specs.Replies.{cannot_know}
 use Rattle.gate_lock.specs.Desks.{DeskView, Errand, Looks}
 use Rattle.gate_lock.specs.Steps.{DeskBegins, Somewhere}
@@ -66,11 +66,13 @@ RefreshesWithin world authority left (Err refusal) left2 old new =
     (moment : ℕ)
     × Somewhere old (λ before behind. BeginsWithin old before authority moment left (Err refusal) left2 behind new)
 
--- a job's turn begins, if no answer is in force, within the bound; nothing else counts. That no more may become known
--- is said where the authority is shut out, or the gate's limit is reached.
+-- a job's turn begins, if no answer is in force, within the bound; nothing else counts. A refusal has its cause: a turn
+-- of the authority is in flight; the history has no room; the authority is shut out, or the gate's limit is reached.
 abbrev pub CountsStale : Gate → List ℕ → ℕ → Result (Option Errand) BeginRefusal → ℕ → Type 0
 CountsStale g authority left (Ok (Some turn)) left2 = CountsKnown g authority left left2
 CountsStale g authority left (Ok None) left2 = left2 ≡ left
+CountsStale g authority left (Err begin.InFlight) left2 = (left2 ≡ left) × (is_fetching (history g) authority ≡ true)
+CountsStale g authority left (Err begin.LogFull) left2 = (left2 ≡ left) × IsFull g 2
 CountsStale g authority left (Err begin.AuthoritiesFull) left2 =
     (left2 ≡ left) × (IsShutOut g authority left ⊎ (cannot_know g authority ≡ true))
-CountsStale g authority left (Err refusal) left2 = left2 ≡ left
+CountsStale g authority left (Err begin.NoMemory) left2 = left2 ≡ left

@@ -3,10 +3,14 @@
 ghost use Rattle.std.specs.Prelude.{◌≡◌, ◌≤◌, ◌∷◌, [], ℕ, List, vec_capacity};
 ghost use Rattle.path_normal.specs.PageText.{authority_of};
 ghost use Rattle.gate_lock.specs.Desks.{HasOut, KeepsOut};
+ghost use Rattle.gate_lock.specs.Steps.{Somewhere};
 ghost use Rattle.gate_history.specs.declared.entry.Entry.{Entry};
 ghost use Rattle.page_worker.specs.Limits.{max_hops};
+ghost use Rattle.page_worker.specs.Newcomers.{CountsStale};
 ghost use Rattle.page_worker.specs.Outcomes.{AfterRefresh, AreHops, MayRefresh};
 ghost use Rattle.page_worker.specs.Refreshes.{MayBeginErrand};
+ghost use Rattle.page_worker.specs.Stale.{BeginsIfStale};
+ghost use Rattle.page_worker.specs.Visits.{SeesToAnswer};
 ghost use Rattle.page_worker.specs.WaysOn.{AddsEntries, TellsWay, ask_hop};
 ghost use Rattle.page_worker.specs.World.{IsSinceRead, world_of};
 
@@ -115,9 +119,9 @@ impl<F: Fetcher, C: Clock, N: EventObserver, R: Wait> Worker<'_, F, C, N, R> {
         }
     }
 
-    // Refreshes the answer of a page's authority if none is in force. If another desk does, waits for its
-    // answer.
-    fn see_to_answer<G: Gate>(
+    /// Refreshes the answer of a page's authority if none is in force. If another desk does, waits for its
+    /// answer.
+    pub(crate) fn see_to_answer<G: Gate>(
         &self,
         url: &PageUrl,
         desk: &mut Desk<'_, G>,
@@ -126,6 +130,9 @@ impl<F: Fetcher, C: Clock, N: EventObserver, R: Wait> Worker<'_, F, C, N, R> {
         ensures refreshed { AddsEntries
             (MayRefresh (world_of (F.gives self.now.fetcher.now) (F.follows self.now.fetcher.now)
             (C.reads self.now.clock.now)) (authority_of url.now)) desk.old desk.new }
+        ensures sees { SeesToAnswer
+            (world_of (F.gives self.now.fetcher.now) (F.follows self.now.fetcher.now) (C.reads self.now.clock.now))
+            (authority_of url.now) newcomers.old result desk.old desk.new }
         ensures no { desk.new.no ≡ desk.old.no }
         ensures out { KeepsOut desk.old desk.new }
         ensures newcomers { newcomers.new ≤ newcomers.old }
@@ -166,6 +173,9 @@ impl<F: Fetcher, C: Clock, N: EventObserver, R: Wait> Worker<'_, F, C, N, R> {
         ensures begins { MayBeginErrand
             (world_of (F.gives self.now.fetcher.now) (F.follows self.now.fetcher.now) (C.reads self.now.clock.now))
             (authority_of url.now) result desk.old desk.new }
+        ensures step { Somewhere desk.old (λ old new.
+            BeginsIfStale desk.old old (authority_of url.now) moment result new desk.new
+            × CountsStale old (authority_of url.now) newcomers.old result newcomers.new) }
         ensures no { desk.new.no ≡ desk.old.no }
         ensures newcomers { newcomers.new ≤ newcomers.old }
     {
@@ -241,8 +251,8 @@ impl<F: Fetcher, C: Clock, N: EventObserver, R: Wait> Worker<'_, F, C, N, R> {
     }
 }
 
-// The hop of an ask without permit.
-fn ask_hop(refusal: AskRefusal) -> Hop
+/// The hop of an ask without permit.
+pub(crate) fn ask_hop(refusal: AskRefusal) -> Hop
     ensures { result ≡ ask_hop refusal }
 {
     match refusal {

@@ -135,10 +135,6 @@ pub is_one : (scheme : List ℕ) → IsScheme scheme → (https : Bool) × (sche
 is_one scheme (inl http) = (false, http)
 is_one scheme (inr https) = (true, https)
 
-pub one_is : (https : Bool) (scheme : List ℕ) → scheme ≡ scheme_text https → IsScheme scheme
-one_is true scheme is = inr is
-one_is false scheme is = inl is
-
 pub scheme_read : (schemes : Schemes) (scheme : List ℕ) → reads schemes scheme ≡ true → IsScheme scheme
 scheme_read Http scheme is_read = inl ((bytes_eq-Decides scheme (codes "http")).0 is_read)
 scheme_read HttpAndHttps scheme is_read = by (bytes_eq scheme (codes "http")) refl

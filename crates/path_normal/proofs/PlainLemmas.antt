@@ -34,15 +34,14 @@ use Rattle.url.proofs.PathLemmas.{no_segments, push_valid}
 use Rattle.url.proofs.SetLemmas.{kept_from_passes}
 use Rattle.path_normal.specs.declared.schemes.Schemes.{Schemes}
 use Rattle.path_normal.specs.declared.schemes.Schemes.TheVariants.{Http, HttpAndHttps}
-use Rattle.path_normal.specs.Capacity.{Enough}
 use Rattle.path_normal.specs.Limits.{max_authority, max_url}
 use Rattle.path_normal.specs.declared.normal.Role.TheVariants.{Path}
 use Rattle.path_normal.specs.Normal.{is_changed, is_unreserved, normal, normal_path}
 use Rattle.path_normal.proofs.NormalLemmas.{kept_front}
 use Rattle.path_normal.specs.PageText.{host_of, host_start, target_of}
-use Rattle.path_normal.specs.PageUrl.{HasPartsOf, IsFaultless, IsPage, host_of_parts, page_of_parts, page_url_among, port_text, target_of_parts}
+use Rattle.path_normal.specs.PageUrl.{HasPartsOf, IsFaultless, IsPage, host_of_parts, page_of_parts, port_text, target_of_parts}
 use Rattle.path_normal.specs.Schemes.{reads}
-use Rattle.path_normal.proofs.PageLemmas.{Splits, faultless_page, faultless_reads, faultless_splits, page_pieces, page_reads_as_itself}
+use Rattle.path_normal.proofs.PageLemmas.{Splits, faultless_page, faultless_splits, page_pieces}
 use Rattle.path_normal.specs.PlainUrl.{IsPlain, IsPlainAuthority, IsPlainHost, IsPlainPort, is_label_octet, is_plain_domain, is_plain_path, is_slash}
 
 -- ---- what was looked at
@@ -364,12 +363,6 @@ plain_splits text end plain short =
     let host : host_of text ≡ plain.authority = splits.parts.host ∙ host_is_own text end plain in
     let at : end ≡ host_start text + length (host_of text) = plain.end_is ∙ ap (λ n. n + length plain.authority) start ∙ ap (λ h. host_start text + length h) (sym host) in
     (start, at, ap (λ n. drop n text) at ∙ sym (drop-drop (length (host_of text)) (host_start text) text))
-
-pub plain_reads : (schemes : Schemes) (text : List ℕ) (end : ℕ) → IsPlain text end → length text ≤ max_url → page_url_among schemes None text Enough ≡ Ok text
-plain_reads schemes text end plain short =
-    let faultless = plain_faultless schemes text end plain short in
-    let spelled = plain_spelled text end plain in
-    page_reads_as_itself schemes (parts_in text end plain) text faultless.parts.valid faultless.parts.scheme spelled (faultless_reads schemes (parts_in text end plain) faultless ∙ ap Ok spelled) short
 
 pub plain_parsed : (text : List ℕ) (end : ℕ) → IsPlain text end → length text ≤ max_url → (url : Parts) × (parse_url None text ≡ Ok url) × HasPartsOf text url
 plain_parsed text end plain short =

@@ -1,5 +1,5 @@
 -- What each fault says.
--- Cited by the `Display` of the faults.
+-- Cited by the `Display` of the faults, and by the lines that tell of URLs.
 use Rattle.std.specs.Prelude.{ℕ, List, codes}
 use Rattle.path_normal.specs.declared.fault.AuthorityFault.{AuthorityFault}
 use Rattle.path_normal.specs.declared.fault.AuthorityFault.TheVariants as authorities
@@ -15,6 +15,14 @@ url_fault_text urls.BadUrl = codes "the text is no URL"
 url_fault_text urls.NotHttp = codes "the URL's scheme is not http"
 url_fault_text urls.HasUser = codes "the URL has a user name or a password"
 url_fault_text urls.NoMemory = codes "no memory for the URL"
+
+-- the words for it in replies and reports
+abbrev pub url_fault_words : UrlFault → List ℕ
+url_fault_words urls.TooLong = codes "url long"
+url_fault_words urls.BadUrl = codes "url bad"
+url_fault_words urls.NotHttp = codes "url scheme"
+url_fault_words urls.HasUser = codes "url user"
+url_fault_words urls.NoMemory = codes "url memory"
 
 -- why a text was not read as a page's URL
 abbrev pub unread_text : Unread → List ℕ

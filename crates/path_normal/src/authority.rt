@@ -46,24 +46,7 @@ impl Authority {
     pub fn new(alloc: Global, text: &str) -> Result<Authority, AuthorityFault>
         ensures { IsRead result (authority_from text.now) }
     {
-        Authority::new_among(alloc, Schemes::Http, text)
-    }
-
-    /// Reads an authority of pages of these schemes: host and port as in a URL, after a lower-case
-    /// `https://` if that is the scheme.
-    pub fn new_among(
-        alloc: Global,
-        schemes: Schemes,
-        text: &str,
-    ) -> Result<Authority, AuthorityFault>
-        ensures { IsRead result (authority_among schemes text.now) }
-    {
-        if has_delimiter(written_host(schemes, text).as_bytes()) {
-            return Err(AuthorityFault::BadAuthority);
-        }
-        let root = root_text(alloc, text)?;
-        let url = PageUrl::parse_among(alloc, schemes, root.as_str())?;
-        Ok(Authority::of(&url)?)
+        Schemes::Http.parse_authority(alloc, text)
     }
 
     /// The authority of a page's URL.
@@ -111,7 +94,7 @@ impl Authority {
     }
 }
 
-fn written_host(schemes: Schemes, text: &str) -> &str
+pub(crate) fn written_host(schemes: Schemes, text: &str) -> &str
     ensures { result.now ≡ written_host schemes text.now }
 {
     match schemes {
@@ -120,7 +103,7 @@ fn written_host(schemes: Schemes, text: &str) -> &str
     }
 }
 
-fn has_delimiter(octets: &[u8]) -> bool
+pub(crate) fn has_delimiter(octets: &[u8]) -> bool
     ensures { result ≡ list_any is_delimiter octets.now }
 {
     octets.iter().any(|octet| matches!(*octet, b'/' | b'\\' | b'?' | b'#' | b'@'))

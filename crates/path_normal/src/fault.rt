@@ -1,5 +1,8 @@
 //! Why a text is no page URL, or no authority.
 //! URL Standard, sections 4.4 and 4.5.
+ghost use Rattle.std.specs.Prelude.{◌≡◌};
+ghost use Rattle.path_normal.specs.Messages.{url_fault_words};
+
 use std::alloc::AllocError;
 use std::error::Error;
 use std::fmt;
@@ -19,6 +22,21 @@ pub enum UrlFault {
     HasUser,
     /// Out of memory.
     NoMemory,
+}
+
+impl UrlFault {
+    /// Its words in replies and reports.
+    pub fn words(self) -> &'static str
+        ensures { result.now ≡ url_fault_words self }
+    {
+        match self {
+            UrlFault::TooLong => "url long",
+            UrlFault::BadUrl => "url bad",
+            UrlFault::NotHttp => "url scheme",
+            UrlFault::HasUser => "url user",
+            UrlFault::NoMemory => "url memory",
+        }
+    }
 }
 
 impl From<AllocError> for UrlFault {

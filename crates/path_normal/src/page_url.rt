@@ -56,16 +56,7 @@ impl PageUrl {
         ensures parts { IfOk result (λ page. (url : Parts) × (parse_url None text.now ≡ Ok url)
             × HasPartsOf page url) }
     {
-        PageUrl::parse_among(alloc, Schemes::Http, text)
-    }
-
-    /// Reads the URL of a page of these schemes, and drops its fragment.
-    pub fn parse_among(alloc: Global, schemes: Schemes, text: &str) -> Result<PageUrl, UrlFault>
-        ensures answer { IsRead result (page_url_among schemes None text.now) }
-        ensures parts { IfOk result (λ page. (url : Parts) × (parse_url None text.now ≡ Ok url)
-            × HasPartsOf page url) }
-    {
-        Ok(PageUrl::read_among(alloc, schemes, text)?)
+        Schemes::Http.parse_page(alloc, text)
     }
 
     /// Like `parse`, but distinguishes an overflow of the crate `url`, which is no fault of the text, from
@@ -75,25 +66,7 @@ impl PageUrl {
         ensures parts { IfOk result (λ page. (url : Parts) × (parse_url None text.now ≡ Ok url)
             × HasPartsOf page url) }
     {
-        PageUrl::read_among(alloc, Schemes::Http, text)
-    }
-
-    /// Like `parse_among`, but distinguishes an overflow of the crate `url`, which is no fault of the text,
-    /// from a text that is too long.
-    pub fn read_among(alloc: Global, schemes: Schemes, text: &str) -> Result<PageUrl, Unread>
-        ensures answer { IsReadWith result (page_url_among schemes None text.now) }
-        ensures parts { IfOk result (λ page. (url : Parts) × (parse_url None text.now ≡ Ok url)
-            × HasPartsOf page url) }
-    {
-        if is_long(text) {
-            return Err(Unread::Fault(UrlFault::TooLong));
-        }
-        // Most URLs are plain: the parser would not change them.
-        if let Some(end) = plain_host_end(text) {
-            return Ok(PageUrl::shared(alloc, Page::of_plain(alloc, text, end)?)?);
-        }
-        let url = Url::parse(alloc, text)?;
-        PageUrl::of_parsed(alloc, schemes, &url)
+        Schemes::Http.read_page(alloc, text)
     }
 
     /// Resolves a reference to an `http` page against this URL, as for a link or a redirect (RFC 3986,
@@ -111,21 +84,7 @@ impl PageUrl {
         ensures answer { IsReadWith result (page_url_on self.now text.now) }
         ensures parts { IfOk result (IsNamedOn self.now text.now) }
     {
-        self.read_on_among(Schemes::Http, text)
-    }
-
-    /// Resolves a reference to a page of these schemes against this URL, as for a link or a redirect (RFC
-    /// 3986, 5.2), and reports an overflow as `read_on` does.
-    pub fn read_on_among(&self, schemes: Schemes, text: &str) -> Result<PageUrl, Unread>
-        ensures answer { IsReadWith result (page_url_on_among schemes self.now text.now) }
-        ensures parts { IfOk result (IsNamedOn self.now text.now) }
-    {
-        if is_long(text) {
-            return Err(Unread::Fault(UrlFault::TooLong));
-        }
-        let base = Url::parse(self.allocator(), self.text())?;
-        let url = base.join(text)?;
-        PageUrl::of_parsed(self.allocator(), schemes, &url)
+        Schemes::Http.read_page_on(self, text)
     }
 
     /// The URL of an authority's robots.txt (RFC 9309, 2.3). Fails only if memory runs out.
@@ -136,7 +95,7 @@ impl PageUrl {
         PageUrl::shared(authority.allocator(), Page::of_robots(authority)?)
     }
 
-    fn of_parsed(alloc: Global, schemes: Schemes, url: &Url) -> Result<PageUrl, Unread>
+    pub(crate) fn of_parsed(alloc: Global, schemes: Schemes, url: &Url) -> Result<PageUrl, Unread>
         ensures answer { IsAnswer result (page_url_of_parts schemes url.now) }
         ensures parts { IfOk result (λ page. HasPartsOf page url.now) }
     {
@@ -144,7 +103,7 @@ impl PageUrl {
         Ok(PageUrl::shared(alloc, page)?)
     }
 
-    fn shared(alloc: Global, page: Page) -> Result<PageUrl, AllocError>
+    pub(crate) fn shared(alloc: Global, page: Page) -> Result<PageUrl, AllocError>
         ensures { IfOk result (λ url. url ≡ page) }
     {
         Ok(PageUrl {
@@ -213,12 +172,6 @@ impl PageUrl {
     pub(crate) fn allocator(&self) -> Global {
         self.page.allocator()
     }
-}
-
-fn is_long(text: &str) -> bool
-    ensures { result ≡ nat_lt max_url (length text.now) }
-{
-    text.len() > MAX_URL
 }
 
 impl PartialEq for PageUrl {

@@ -114,22 +114,6 @@ module _ (marks : List ℕ) (from : ℕ) where
         subst (λ p. mark marks p ≡ 0) there
         (sym (shifted (place - from) (omega (arith, low, high))) ∙ ap (λ n. bit_at n (place - from)) (sym is ∙ zero) ∙ bit_at-zero (place - from))
 
-  pub first_later : (index low : ℕ) → index < 192 → low < 64 → from ≤ index * 64 → bit_at (slice_index marks index) low ≡ 1 → ((k : ℕ) → k < low → bit_at (slice_index marks index) k ≡ 0) → ((place : ℕ) → from ≤ place → place < index * 64 → mark marks place ≡ 0) → IsFirstMark marks from (Some (index * 64 + low))
-  first_later index low inside few past set below none =
-      let block : (index * 64 + low) / 64 ≡ index = omega (arith, few) in
-      let bit : (index * 64 + low) % 64 ≡ low = omega (arith, few) in (
-        omega (arith, past),
-        omega (arith, inside, few),
-        ap (λ b. bit_at (slice_index marks b) ((index * 64 + low) % 64)) block ∙ ap (bit_at (slice_index marks index)) bit ∙ set,
-        λ place low_bound before.
-            ⊎_elim
-            (λ earlier. none place low_bound earlier)
-            (λ later.
-            let its : place / 64 ≡ index = omega (arith, few, before, later) in
-            ap (λ b. bit_at (slice_index marks b) (place % 64)) its ∙ below (place % 64) (omega (arith, few, before, later)))
-            (cases_lt place (index * 64)),
-      )
-
   pub none_more : (index : ℕ) → slice_index marks index ≡ 0 → ((place : ℕ) → from ≤ place → place < index * 64 → mark marks place ≡ 0) → (place : ℕ) → from ≤ place → place < (index + 1) * 64 → mark marks place ≡ 0
   none_more index zero none place low high =
       ⊎_elim
@@ -138,9 +122,6 @@ module _ (marks : List ℕ) (from : ℕ) where
       let its : place / 64 ≡ index = omega (arith, high, later) in
       ap (λ b. bit_at (slice_index marks b) (place % 64)) its ∙ ap (λ n. bit_at n (place % 64)) zero ∙ bit_at-zero (place % 64))
       (cases_lt place (index * 64))
-
-  pub none_at_end : (index : ℕ) → 192 ≤ index → ((place : ℕ) → from ≤ place → place < index * 64 → mark marks place ≡ 0) → IsFirstMark marks from None
-  none_at_end index end none place low high = none place low (omega (arith, end, high))
 
 -- ---- the first mark is that of the least place
 

@@ -72,10 +72,6 @@ Summarizes-lowered upper lower upper' lower' place sums others empty above j = e
     was_full : slice_index lower' place ≢ 0 → (slice_index lower place == 0) ≡ false
     was_full full = elim (eqb_tells (slice_index lower place) 0) [ inl e ↦ absurd (full (empty e.1)) | inr d ↦ d.0 ]
 
-pub full_below : (upper lower : List ℕ) (i : ℕ) → Summarizes upper lower → bit_of upper i ≡ 1 → slice_index lower i ≢ 0
-full_below upper lower i sums one none =
-    let zero : bit_of upper i ≡ 0 = sums i ∙ rw none refl in absurd (omega arith)
-
 pub empty_below : (upper lower : List ℕ) (i : ℕ) → Summarizes upper lower → bit_of upper i ≡ 0 → slice_index lower i ≡ 0
 empty_below upper lower i sums clear = elim (eqb_tells (slice_index lower i) 0) [
   | inl e ↦ e.1

@@ -10,7 +10,7 @@ use Rattle.permit_book.specs.declared.out.SlotContent.TheVariants.{Nothing, Unsp
 use Rattle.permit_book.specs.declared.out.Slot.{Slot}
 use Rattle.permit_book.specs.Numbers.{slot_of, generation_of, most_slots, last_generation}
 use Rattle.permit_book.specs.Bits.{bit_of, AreFirst}
-use Rattle.permit_book.specs.Table.{Table, unused, vacated, is_unspent, is_running, slot_at, last_in, out_under, with_out, decided, is_free, is_nothing, is_unspent_out, is_running_out}
+use Rattle.permit_book.specs.Table.{Table, unused, vacated, is_unspent, is_running, slot_at, last_in, out_under, decided, is_free, is_nothing, is_unspent_out, is_running_out}
 use Rattle.permit_book.specs.Next.{is_free_in}
 use Rattle.permit_book.specs.Kept.{IsKept, ShowsFree, Vacates}
 
@@ -55,10 +55,6 @@ out_there t number some = elim (eqb_tells (last_in t (slot_of number)) (generati
   | inr d ↦ (let out : out_under t number ≡ Nothing = rw d.0 refl in
       let nothing : is_nothing (out_under t number) ≡ true = rw out refl in cc)
 ]
-
-pub with_out-there : (t : Table) (number : ℕ) (out : SlotContent) → last_in t (slot_of number) ≡ generation_of number →
-    with_out t number out ≡ with_slot t (slot_of number) (record { last = last_in t (slot_of number); out = out })
-with_out-there t number out last = rw last refl
 
 ShowsFree-set : (t : Table) (bits bits' : List ℕ) (place : ℕ) (slot : Slot) → ShowsFree bits t → place < length t.slots →
     ((j : ℕ) → j ≢ place → bit_of bits' j ≡ bit_of bits j) → bit_of bits' place ≡ one_if (is_free slot) →

@@ -31,8 +31,8 @@ use Rattle.program_arguments.specs.declared.numbers.ShiftNumbers.{ShiftNumbers}
 use Rattle.program_arguments.specs.declared.places.ServePlaces.{ServePlaces}
 use Rattle.program_arguments.specs.declared.words.Chosen.{Chosen}
 use Rattle.program_arguments.specs.declared.words.Chosen.TheVariants.{Taken, Refused}
-use Rattle.robots_check.specs.declared.detail.Detail.{Detail}
-use Rattle.robots_check.specs.declared.detail.Detail.TheVariants.{Plain, Explained}
+use Rattle.program_arguments.specs.declared.subcommand.CheckDetail.{CheckDetail}
+use Rattle.program_arguments.specs.declared.subcommand.CheckDetail.TheVariants.{Plain, Explained}
 use Rattle.client_connections.specs.Accepts.{AreServed}
 use Rattle.client_connections.specs.Ahead.{IsAhead}
 use Rattle.client_connections.specs.Waiting.{IsPatience}
@@ -295,7 +295,7 @@ IsTextOf words Input = first_value words (codes "robots") ≡ None
 IsTextOf words (File name) = first_value words (codes "robots") ≡ Some (string_bytes name)
 
 -- answers are explained if the flag says so
-pub record IsDetailOf (words : Found) (detail : Detail) : Type 0 where
+pub record IsDetailOf (words : Found) (detail : CheckDetail) : Type 0 where
   pub explained : one_text words (codes "explain") ≡ Some (codes "true") → detail ≡ Explained
   pub plain : one_text words (codes "explain") ≡ Some (codes "false") → detail ≡ Plain
 

@@ -4,10 +4,9 @@ ghost use Rattle.std.specs.Prelude.{IfOk};
 ghost use Rattle.clap.specs.Words.{found_of};
 ghost use Rattle.program_arguments.specs.Options.{IsChosen, IsChosenBy, IsDetailOf, IsTextOf};
 
-use crate::subcommand::{CheckOptions, CheckedText, CheckedUrls, Subcommand};
+use crate::subcommand::{CheckDetail, CheckOptions, CheckedText, CheckedUrls, Subcommand};
 use crate::words::Chosen;
 use clap::ArgMatches;
-use robots_check::Detail;
 use robots_text::{Token, TokenFault};
 use std::alloc::{AllocError, Global};
 
@@ -41,13 +40,13 @@ fn text_of(alloc: Global, matches: &ArgMatches<'_>) -> Result<CheckedText, Alloc
     }
 }
 
-fn detail_of(matches: &ArgMatches<'_>) -> Detail
+fn detail_of(matches: &ArgMatches<'_>) -> CheckDetail
     ensures { IsDetailOf (found_of matches.now) result }
 {
     if matches.get_flag("explain") {
-        Detail::Explained
+        CheckDetail::Explained
     } else {
-        Detail::Plain
+        CheckDetail::Plain
     }
 }
 

@@ -20,7 +20,7 @@ mod word_fault;
 mod words;
 
 pub use subcommand::{
-    Ahead, BadJobs, CheckOptions, CheckedText, CheckedUrls, Contact, JournalOptions, ListenAddress,
-    Notes, ReplayOptions, ServeOptions, ShiftOptions, ShiftOutput, Subcommand,
+    Ahead, BadJobs, CheckDetail, CheckOptions, CheckedText, CheckedUrls, Contact, JournalOptions,
+    ListenAddress, Notes, ReplayOptions, ServeOptions, ShiftOptions, ShiftOutput, Subcommand,
 };
 pub use words::options;

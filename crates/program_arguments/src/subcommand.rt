@@ -5,7 +5,6 @@ use gate_core::Limits;
 use http_client::{AddressBlock, Reach, TimeLimits};
 use journal::SyncPolicy;
 use path_normal::Schemes;
-use robots_check::Detail;
 use robots_text::Token;
 use std::net::SocketAddr;
 
@@ -163,7 +162,16 @@ pub struct CheckOptions {
     pub token: Token,
     pub text: CheckedText,
     pub urls: CheckedUrls,
-    pub detail: Detail,
+    pub detail: CheckDetail,
+}
+
+/// What a check writes for each URL.
+#[derive(Clone, Copy)]
+pub enum CheckDetail {
+    /// The verdict and the line that decides.
+    Plain,
+    /// Before it, what its token's groups and rules say of the URL.
+    Explained,
 }
 
 /// The source of the robots text.

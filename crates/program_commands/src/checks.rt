@@ -6,7 +6,7 @@ use crate::robots_file::read_file;
 use crate::streams::Stream;
 use crate::telling::tell_failed;
 use counted_io::{Counted, Source};
-use program_arguments::{CheckOptions, CheckedText, CheckedUrls};
+use program_arguments::{CheckDetail, CheckOptions, CheckedText, CheckedUrls};
 use robots_check::{Detail, check, check_input, check_lines};
 use robots_text::Token;
 
@@ -18,6 +18,10 @@ pub(crate) fn check_streams(rt: &HostRuntime, options: CheckOptions) -> Ending {
         urls,
         detail,
     } = options;
+    let detail = match detail {
+        CheckDetail::Plain => Detail::Plain,
+        CheckDetail::Explained => Detail::Explained,
+    };
     match text {
         CheckedText::Input => check_by_input(rt, &token, urls, detail),
         CheckedText::File(name) => match read_file(rt, name.as_str()) {

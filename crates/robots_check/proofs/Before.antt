@@ -10,21 +10,24 @@ use Rattle.path_normal.specs.PageText.{target_of}
 use Rattle.path_normal.specs.declared.fault.UrlFault.{UrlFault}
 use Rattle.robots_text.specs.Groups.{AreRulesFor, Ruled}
 use Rattle.robots_text.specs.Records.{Numbered}
+use Rattle.robots_verdict.specs.Strongest.{IsBest}
+use Rattle.robots_verdict.specs.Verdict.{IsVerdict}
+use Rattle.robots_verdict.specs.declared.decision.Verdict.{Verdict}
+use Rattle.robots_verdict.specs.declared.weight.Weight.{Weight}
 use Rattle.robots_check.specs.AgentText.{AreHeadsAt, Shown, agents_for, agents_text}
 use Rattle.robots_check.specs.AnswerText.{answer_text}
 use Rattle.robots_check.specs.Answering.{Passing, PassingFront}
 use Rattle.robots_check.specs.Answers.{Answer, allowed_by, allowed_unruled, allowed_robots, denied_by, unread, IsAnswerOn}
-use Rattle.robots_check.specs.Deciding.{Says, octets_of}
-use Rattle.robots_check.specs.Explained.{Explains, IsSecondFor, because_text, row_text, winner_octets}
+use Rattle.robots_check.specs.Explained.{Explains, IsSecondFor, because_text, octets_of, row_text, winner_octets}
 use Rattle.robots_check.specs.Outcomes.{outcome_of_one}
-use Rattle.robots_check.specs.Rows.{AreRows, IsFirst, Tried, row_seen}
+use Rattle.robots_check.specs.Rows.{AreRows, IsBestFor, row_seen}
 use Rattle.robots_check.specs.Targets.{HasFault, HasPath, page_named}
 use Rattle.robots_check.specs.Told.{IsBefore, IsTold, Told}
 use Rattle.robots_check.specs.declared.detail.Detail.{Detail}
 use Rattle.robots_check.specs.declared.detail.Detail.TheVariants.{Plain, Explained}
 use Rattle.robots_check.specs.declared.check_outcome.CheckOutcome.{CheckOutcome}
 use Rattle.robots_check.specs.declared.rows.ComparedRule.{ComparedRule}
-use Rattle.robots_check.proofs.Judging.{on_path, says_answer, says_because}
+use Rattle.robots_check.proofs.Judging.{judged, on_path, says_because}
 use Rattle.robots_check.proofs.Passing.{cut_one, outcome_one, passing_one}
 
 told_on : (detail : Detail) (lines : List Numbered) (word url path : List ℕ) (answer : Answer) (before : List ℕ) → HasPath url path → IsAnswerOn lines word path answer → IsBefore detail lines word url answer before → IsTold detail lines word url (record { before = before; answer = answer })
@@ -78,7 +81,7 @@ rows_text : (rows : List ComparedRule) → flat_map (λ row. row_text (row_seen 
 rows_text [] = refl
 rows_text (row ∷ rows) = ap (λ l. row_text (row_seen row) ++ l) (rows_text rows)
 
-explains : (lines : List Numbered) (word path : List ℕ) (answer : Answer) (agents : List Shown) (rules : List Ruled) (rows : List ComparedRule) (second : Option Tried) (reason : List ℕ) →
+explains : (lines : List Numbered) (word path : List ℕ) (answer : Answer) (agents : List Shown) (rules : List Ruled) (rows : List ComparedRule) (second : Option Weight) (reason : List ℕ) →
     agents ≡ agents_for lines word → AreRulesFor lines word rules → AreRows path rules (map row_seen rows) → IsSecondFor (map row_seen rows) answer second → reason ≡ because_text (winner_octets answer) answer second →
     Explains lines word path answer (agents_text agents ++ (flat_map (λ row. row_text (row_seen row)) rows ++ reason))
 explains lines word path answer agents rules rows second reason agents_are are_rules are_rows is_second reason_is = record {
@@ -101,20 +104,20 @@ explained_before lines word url path allowed_robots before has says is = (path, 
 explained_before lines word url path (denied_by ruled) before has says is = (path, has, is)
 explained_before lines word url path (unread fault) before has says is = absurd says
 
-pub told_explained : (detail : Detail) (lines : List Numbered) (word url path tried : List ℕ) (answer : Answer) (agents : List Shown) (rules : List Ruled) (rows given : List ComparedRule) (first second : Option Tried) (octets : ℕ) (reason : List ℕ) →
-    detail ≡ Explained → HasPath url path → AreHeadsAt detail lines word agents → AreRulesFor lines word rules → AreRows path rules (map row_seen rows) → given ≡ rows → tried ≡ path →
-    IsFirst (map row_seen given) first → Says tried first answer → IsSecondFor (map row_seen given) answer second → octets ≡ octets_of first → reason ≡ because_text octets answer second →
+pub told_explained : (detail : Detail) (lines : List Numbered) (word url path : List ℕ) (answer : Answer) (agents : List Shown) (rules : List Ruled) (rows given : List ComparedRule) (best : Option Weight) (said : Verdict) (tried : List ℕ) (second : Option Weight) (octets : ℕ) (reason : List ℕ) →
+    detail ≡ Explained → HasPath url path → AreHeadsAt detail lines word agents → AreRulesFor lines word rules → AreRows path rules (map row_seen rows) → given ≡ rows → tried ≡ path → IsBestFor path rules best →
+    ((lines' : List Numbered) (word' : List ℕ) → IsBest lines' word' tried best → IsVerdict lines' word' tried said) → ((path' : List ℕ) → IsVerdict lines word path' said → IsAnswerOn lines word path' answer) →
+    IsSecondFor (map row_seen given) answer second → octets ≡ octets_of best → reason ≡ because_text octets answer second →
     IsTold detail lines word url (record { before = agents_text agents ++ (flat_map (λ row. row_text (row_seen row)) given ++ reason); answer = answer })
-told_explained detail lines word url path tried answer agents rules rows given first second octets reason explained has heads are are_rows given_is tried_is is_first says is_second octets_are reason_is =
+told_explained detail lines word url path answer agents rules rows given best said tried second octets reason explained has heads are are_rows given_is same is_best on finds is_second octets_are reason_is =
     let given_rows = subst (λ l. AreRows path rules (map row_seen l)) (sym given_is) are_rows in
-    let given_says = subst (λ p. Says p first answer) tried_is says in
-    let decides = says_answer lines word path rules (map row_seen given) first answer are given_rows is_first given_says in
+    let says = finds path (judged lines word tried path best said same (is_best lines word are) on) in
     let before = agents_text agents ++ (flat_map (λ row. row_text (row_seen row)) given ++ reason) in
-    told_on detail lines word url path answer before has decides
+    told_on detail lines word url path answer before has says
     (subst (λ d. IsBefore d lines word url answer before) (sym explained)
-    (explained_before lines word url path answer before has decides
+    (explained_before lines word url path answer before has says
     (explains lines word path answer agents rules given second reason (subst (λ d. AreHeadsAt d lines word agents) explained heads) are given_rows is_second
-    (reason_is ∙ ap (λ n. because_text n answer second) octets_are ∙ says_because path rules (map row_seen given) first second answer given_rows is_first given_says))))
+    (reason_is ∙ ap (λ n. because_text n answer second) octets_are ∙ says_because lines word path best second answer (is_best lines word are) says))))
 
 pub path_named : (url page path : List ℕ) → page_named url ≡ Ok page → path ≡ normal_path (target_of page) → HasPath url path
 path_named url page path named is = (page, named, is)

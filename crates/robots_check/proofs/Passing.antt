@@ -85,14 +85,6 @@ passing_cut detail lines word urls more rest a b c pending mid one before next =
       (Passes-cut-piece a b c pending (answers_text urls before.answers) mid (answers_text next.first next.answers) before.passed next.wrote);
 }
 
-pub passing_none : (detail : Detail) (lines : List Numbered) (word : List ℕ) (a : Option (List ℕ)) (pending : List ℕ) → Passing detail lines word [] a a pending pending outcomes.NoUrls
-passing_none detail lines word a pending = record {
-  answers = [];
-  are = tt;
-  passed = record { front = []; wrote = Appends-nil a; split = append-nil pending };
-  come_to = refl;
-}
-
 pub cut_none : (detail : Detail) (lines : List Numbered) (word : List ℕ) (urls : List (List ℕ)) (a : Option (List ℕ)) (pending : List ℕ) → PassingFront detail lines word urls a a pending
 cut_none detail lines word urls a pending = record {
   first = [];
@@ -151,17 +143,6 @@ front_all detail lines word urls a b c pending mid outcome none passing cut = re
   wrote = subst (λ l. AppendsPrefix a c (l ++ answers_text urls passing.answers)) none (Passes-cut-all a b c (pending ++ answers_text urls passing.answers) mid passing.passed cut);
 }
 
-pub front_cut : (detail : Detail) (lines : List Numbered) (word : List ℕ) (urls : List (List ℕ)) (a b : Option (List ℕ)) (pending : List ℕ) → pending ≡ [] →
-    PassingFront detail lines word urls a b pending → AnswersFront detail lines word urls a b
-front_cut detail lines word urls a b pending none cut = record {
-  first = cut.first;
-  later = cut.later;
-  split = cut.split;
-  answers = cut.answers;
-  are = cut.are;
-  wrote = subst (λ l. AppendsPrefix a b (l ++ answers_text cut.first cut.answers)) none cut.wrote;
-}
-
 pub all_written : (detail : Detail) (lines : List Numbered) (word : List ℕ) (urls : List (List ℕ)) (a b c : Option (List ℕ)) (pending mid : List ℕ) (outcome : CheckOutcome) → pending ≡ [] →
     Passing detail lines word urls a b pending mid outcome → Appends b c mid → Answers detail lines word urls a c outcome
 all_written detail lines word urls a b c pending mid outcome none passing wrote = record {
@@ -186,17 +167,7 @@ passing_stop detail lines word f xs i d a b c pending mid one within before next
     (sym (ap (map f) (sym (take-append-drop i xs)) ∙ map-append f (take i xs) (drop i xs) ∙ ap (λ l. map f (take i xs) ++ map f l) (drop-cons xs i d within)))
     (passing_cut detail lines word (map f (take i xs)) (f (slice_index_or xs i d) ∷ []) (map f (drop (suc i) xs)) a b c pending mid one before next)
 
-pub told_all : (detail : Detail) (text policy word : List ℕ) (urls : List (List ℕ)) (a b c : Option (List ℕ)) (pending mid : List ℕ) (outcome : CheckOutcome) → policy ≡ text → pending ≡ [] →
-    Passing detail (numbered_records policy) word urls a b pending mid outcome → Appends b c mid → Answers detail (numbered_records text) word urls a c outcome
-told_all detail text policy word urls a b c pending mid outcome same none passing wrote =
-    subst (λ t. Answers detail (numbered_records t) word urls a c outcome) same (all_written detail (numbered_records policy) word urls a b c pending mid outcome none passing wrote)
-
 pub told_front : (detail : Detail) (text policy word : List ℕ) (urls : List (List ℕ)) (a b c : Option (List ℕ)) (pending mid : List ℕ) (outcome : CheckOutcome) → policy ≡ text → pending ≡ [] →
     Passing detail (numbered_records policy) word urls a b pending mid outcome → AppendsPrefix b c mid → AnswersFront detail (numbered_records text) word urls a c
 told_front detail text policy word urls a b c pending mid outcome same none passing cut =
     subst (λ t. AnswersFront detail (numbered_records t) word urls a c) same (front_all detail (numbered_records policy) word urls a b c pending mid outcome none passing cut)
-
-pub told_cut : (detail : Detail) (text policy word : List ℕ) (urls : List (List ℕ)) (a b : Option (List ℕ)) (pending : List ℕ) → policy ≡ text → pending ≡ [] →
-    PassingFront detail (numbered_records policy) word urls a b pending → AnswersFront detail (numbered_records text) word urls a b
-told_cut detail text policy word urls a b pending same none cut =
-    subst (λ t. AnswersFront detail (numbered_records t) word urls a b) same (front_cut detail (numbered_records policy) word urls a b pending none cut)

@@ -2,17 +2,8 @@
 -- Used by `check` and a line's pieces.
 use Rattle.std.specs.Prelude.{ℕ, List, ◌++◌, codes, decimal}
 use Rattle.line_text.specs.Escapes.{escaped}
-use Rattle.path_normal.specs.declared.fault.UrlFault.{UrlFault}
-use Rattle.path_normal.specs.declared.fault.UrlFault.TheVariants as urls
+use Rattle.path_normal.specs.Messages.{url_fault_words}
 use Rattle.robots_check.specs.Answers.{Answer, allowed_by, allowed_unruled, allowed_robots, denied_by, unread}
-
--- the word of a URL's fault, as in a gate's replies
-abbrev pub fault_word : UrlFault → List ℕ
-fault_word urls.TooLong = codes "long"
-fault_word urls.BadUrl = codes "bad"
-fault_word urls.NotHttp = codes "scheme"
-fault_word urls.HasUser = codes "user"
-fault_word urls.NoMemory = codes "memory"
 
 -- some words and a URL
 abbrev pub url_answer_text : List ℕ → List ℕ → List ℕ
@@ -31,4 +22,4 @@ answer_text url allowed_unruled = url_answer_text (codes "allowed norule ") url
 answer_text url allowed_robots = url_answer_text (codes "allowed robots ") url
 answer_text url (denied_by ruled) =
     rule_answer_text (codes "denied line ") ruled.line (codes " disallow ") ruled.pattern url
-answer_text url (unread fault) = codes "ERR url " ++ (fault_word fault ++ (codes " " ++ (escaped url ++ codes "\n")))
+answer_text url (unread fault) = codes "ERR " ++ (url_fault_words fault ++ (codes " " ++ (escaped url ++ codes "\n")))

@@ -5,7 +5,6 @@ pub mod AnswerText
 pub mod Answering
 pub mod Answers
 pub mod Checks
-pub mod Deciding
 pub mod Explained
 pub mod Forms
 pub mod Input

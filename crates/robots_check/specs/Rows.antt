@@ -3,9 +3,12 @@
 use Rattle.std.specs.Prelude.{◌≡◌, ◌↔◌, ◌&&◌, ◌==◌, not, ℕ, Bool, true, false, IsTrue, List, [], ◌∷◌, Option, Some, None, Contains, length, if◌then◌else◌}
 use Rattle.path_normal.specs.Normal.{normal_pattern}
 use Rattle.path_pattern.specs.Matches.{Matches}
-use Rattle.robots_text.specs.Groups.{Ruled}
+use Rattle.robots_text.specs.Groups.{AreRulesFor, Ruled}
+use Rattle.robots_text.specs.Records.{Numbered}
 use Rattle.robots_text.specs.Walk.{rule_seen}
+use Rattle.robots_verdict.specs.Strongest.{IsBest, stronger}
 use Rattle.robots_verdict.specs.Weights.{is_above}
+use Rattle.robots_verdict.specs.declared.weight.Weight.{Weight}
 use Rattle.robots_check.specs.declared.rows.ComparedRule.{ComparedRule}
 
 -- a rule line, its normalized pattern's octets, and whether it matches a path
@@ -31,40 +34,36 @@ AreRows path (ruled ∷ rules) (tried ∷ rows) = IsRow path ruled tried × AreR
 AreRows path [] (tried ∷ rows) = ⊥
 AreRows path (ruled ∷ rules) [] = ⊥
 
--- the one is stronger, by the weights of their rule lines
-abbrev pub is_row_above : Tried → Tried → Bool
-is_row_above one other =
-    is_above (record { octets = one.octets; kind = one.ruled.kind; line = one.ruled.line })
-    (record { octets = other.octets; kind = other.ruled.kind; line = other.ruled.line })
+-- this is the weight of the strongest of the rule lines that match the path, whatever text and token they are of
+abbrev pub IsBestFor : List ℕ → List Ruled → Option Weight → Type 0
+IsBestFor path rules best =
+    (lines : List Numbered) (word : List ℕ) → AreRulesFor lines word rules → IsBest lines word path best
+
+-- a row's weight
+abbrev pub row_weight : Tried → Weight
+row_weight tried = record { octets = tried.octets; kind = tried.ruled.kind; line = tried.ruled.line }
 
 -- it matches, and is not the line of this number
 abbrev pub is_other : ℕ → Tried → Bool
 is_other line tried = tried.hits && not (tried.ruled.line == line)
 
--- no row that passes the test is stronger
-pub record IsBestOf (test : Tried → Bool) (rows : List Tried) (best : Tried) : Type 0 where
-  pub stands : Contains rows best
-  pub passes : test best ≡ true
-  pub strongest : (tried : Tried) → Contains rows tried → test tried ≡ true → is_row_above tried best ≡ false
+-- the row of this weight passes the test, and none that does is stronger
+pub record IsHeaviest (test : Tried → Bool) (rows : List Tried) (best : Weight) : Type 0 where
+  pub row : Tried
+  pub stands : Contains rows row
+  pub passes : test row ≡ true
+  pub weighs : row_weight row ≡ best
+  pub strongest : (tried : Tried) → Contains rows tried → test tried ≡ true → is_above (row_weight tried) best ≡ false
 
--- the strongest row that passes the test, or none
-abbrev pub IsBest : (Tried → Bool) → List Tried → Option Tried → Type 0
-IsBest test rows None = (tried : Tried) → Contains rows tried → test tried ≡ true → ⊥
-IsBest test rows (Some best) = IsBestOf test rows best
+-- the weight of the strongest row that passes the test, or none
+abbrev pub IsHeaviestOf : (Tried → Bool) → List Tried → Option Weight → Type 0
+IsHeaviestOf test rows None = (tried : Tried) → Contains rows tried → test tried ≡ true → ⊥
+IsHeaviestOf test rows (Some best) = IsHeaviest test rows best
 
--- the strongest match, or none
-abbrev pub IsFirst : List Tried → Option Tried → Type 0
-IsFirst rows first = IsBest (λ tried. tried.hits) rows first
+-- the weight of the strongest match other than this line, or none
+abbrev pub IsSecond : List Tried → ℕ → Option Weight → Type 0
+IsSecond rows line second = IsHeaviestOf (is_other line) rows second
 
--- the strongest match other than this line, or none
-abbrev pub IsSecond : List Tried → ℕ → Option Tried → Type 0
-IsSecond rows line second = IsBest (is_other line) rows second
-
--- the stronger of two
-abbrev pub stronger_row : Option Tried → Tried → Tried
-stronger_row None other = other
-stronger_row (Some best) other = if is_row_above other best then other else best
-
--- the stronger of the strongest row and one more that counts
-abbrev pub weighed_row : Bool → Option Tried → Tried → Option Tried
-weighed_row counts best tried = if counts then Some (stronger_row best tried) else best
+-- the stronger of the best so far and one more row that counts
+abbrev pub weighed_row : Bool → Option Weight → Tried → Option Weight
+weighed_row counts best tried = if counts then Some (stronger best (row_weight tried)) else best

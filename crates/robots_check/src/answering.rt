@@ -12,18 +12,18 @@ use crate::check_outcome::CheckOutcome;
 use crate::detail::Detail;
 use crate::explaining::{octets_of, push_explanation, reason_pieces, second_for};
 use crate::fault::TextFault;
-use crate::finding::{Finding, finding_by, finding_pieces};
+use crate::finding::{Finding, finding_pieces};
 use crate::judge::Judge;
 use crate::notes::tell_said_notes;
 use crate::page::read_page;
-use crate::rows::{first, rows_of};
+use crate::rows::compare;
 use crate::said::SaidLines;
 use crate::token_lines::token_lines;
 use counted_io::{Output, Sink};
 use path_normal::{PageUrl, Unread, UrlFault};
 use path_pattern::{Path, SuffixArray, empty_room};
 use robots_text::{RobotsText, Token};
-use robots_verdict::Policy;
+use robots_verdict::{Policy, verdict_on};
 use std::alloc::{AllocError, Global};
 
 // The most URLs without an index: to make one takes as long as to try each rule on so many.
@@ -282,8 +282,7 @@ fn push_plain<W: Sink>(
     output: &mut Output,
     sink: &mut W,
 ) -> Result<CheckOutcome, TextFault>
-    requires ready { IsReady judge }
-    requires plain { judge.detail ≡ Detail.Plain }
+    requires ready { IsReady judge × (judge.detail ≡ Detail.Plain) }
     requires has_path { HasPath url.now path.old }
     ensures passes { IfOk result (Passing judge.entry.detail
         (numbered_records judge.entry.text.now) judge.entry.token.now (url.now ∷ [])
@@ -308,8 +307,7 @@ fn push_explained<W: Sink>(
     output: &mut Output,
     sink: &mut W,
 ) -> Result<CheckOutcome, TextFault>
-    requires ready { IsReady judge }
-    requires explains { judge.detail ≡ Detail.Explained }
+    requires ready { IsReady judge × (judge.detail ≡ Detail.Explained) }
     requires has_path { HasPath url.now path.old }
     ensures passes { IfOk result (Passing judge.entry.detail
         (numbered_records judge.entry.text.now) judge.entry.token.now (url.now ∷ [])
@@ -320,11 +318,11 @@ fn push_explained<W: Sink>(
     ensures faults { IfErr result IsTellFault }
     ensures count { W.failures sink.new ≡ failures_after_writes (W.failures sink.old) result }
 {
-    let rows = rows_of(alloc, judge.rules, path)?;
-    let rows = rows.as_slice();
-    let first = first(rows);
-    let finding = finding_by(path.octets(), first);
-    let reason = reason_pieces(octets_of(first), finding, second_for(rows, finding));
+    let compared = compare(alloc, judge.rules, path)?;
+    let rows = compared.rows.as_slice();
+    let finding = judge.find_by(verdict_on(path.octets(), compared.strongest));
+    let octets = octets_of(compared.strongest);
+    let reason = reason_pieces(octets, finding, second_for(rows, finding));
     push_explanation(judge.agents, rows, reason, output, sink)?;
     finding_pieces(finding, url).push(output, sink)?;
     Ok(finding.outcome())

@@ -1,12 +1,11 @@
 //! Explains an answer: the lines that it comes from, and why the winning one wins.
 //! RFC 9309, section 2.2; see docs/FORMATS.md.
-ghost use Rattle.std.specs.Prelude.{◌≡◌, ◌++◌, flat_map, map, option_map};
+ghost use Rattle.std.specs.Prelude.{◌≡◌, ◌++◌, flat_map, map};
 ghost use Rattle.counted_io.specs.Output.{Pushes};
 ghost use Rattle.line_text.specs.Pieces.{pieces_text};
 ghost use Rattle.robots_check.specs.AgentText.{agents_text, head_seen};
 ghost use Rattle.robots_check.specs.Answers.{answer_seen};
-ghost use Rattle.robots_check.specs.Deciding.{octets_of};
-ghost use Rattle.robots_check.specs.Explained.{IsSecondFor, alike_text, because_by, because_text, hits_text, row_text};
+ghost use Rattle.robots_check.specs.Explained.{IsSecondFor, alike_text, because_by, because_text, hits_text, octets_of, row_text};
 ghost use Rattle.robots_check.specs.Rows.{row_seen};
 ghost use Rattle.robots_text.specs.Walk.{rule_seen};
 
@@ -16,6 +15,7 @@ use crate::rows::{ComparedRule, second};
 use counted_io::{DeviceFault, Output, Sink};
 use line_text::{AsPieces, Piece, Pieces, gap_before, push_each, rule_word};
 use robots_text::RuleLine;
+use robots_verdict::Weight;
 
 /// Pushes the explanation: the user-agent lines, the rows, and the reason.
 pub(crate) fn push_explanation<W: Sink>(
@@ -75,13 +75,9 @@ fn hits_word(hits: bool) -> &'static str
     if hits { " matches\n" } else { " no\n" }
 }
 
-/// The strongest matching row other than the winning line's.
-pub(crate) fn second_for<'t>(
-    rows: &[ComparedRule<'t>],
-    finding: Finding<'t>,
-) -> Option<ComparedRule<'t>>
-    ensures { IsSecondFor (map row_seen rows.now) (answer_seen finding.entry)
-        (option_map row_seen result) }
+/// The weight of the strongest matching row other than the winning line's.
+pub(crate) fn second_for(rows: &[ComparedRule<'_>], finding: Finding<'_>) -> Option<Weight>
+    ensures { IsSecondFor (map row_seen rows.now) (answer_seen finding.entry) result }
 {
     match finding {
         Finding::Allowed(rule) | Finding::Denied(rule) => second(rows, rule.line),
@@ -89,24 +85,23 @@ pub(crate) fn second_for<'t>(
     }
 }
 
-/// The octets of a row's normalized pattern, if any.
-pub(crate) fn octets_of(row: Option<ComparedRule<'_>>) -> usize
-    ensures { result ≡ octets_of (option_map row_seen row.entry) }
+/// The octets of the winning line's normalized pattern, if any.
+pub(crate) fn octets_of(weight: Option<Weight>) -> usize
+    ensures { result ≡ octets_of weight }
 {
-    match row {
-        Some(row) => row.octets,
+    match weight {
+        Some(weight) => weight.octets,
         None => 0,
     }
 }
 
 /// The line with the reason.
-pub(crate) fn reason_pieces<'a>(
+pub(crate) fn reason_pieces(
     octets: usize,
-    finding: Finding<'a>,
-    second: Option<ComparedRule<'a>>,
-) -> Pieces<'a>
-    ensures { pieces_text result ≡ because_text octets (answer_seen finding.entry)
-        (option_map row_seen second.entry) }
+    finding: Finding<'_>,
+    second: Option<Weight>,
+) -> Pieces<'static>
+    ensures { pieces_text result ≡ because_text octets (answer_seen finding.entry) second }
 {
     match finding {
         Finding::Allowed(rule) | Finding::Denied(rule) => above_pieces(octets, rule, second),
@@ -116,31 +111,26 @@ pub(crate) fn reason_pieces<'a>(
     }
 }
 
-fn above_pieces<'a>(
-    octets: usize,
-    rule: RuleLine<'a>,
-    second: Option<ComparedRule<'a>>,
-) -> Pieces<'a>
-    ensures { pieces_text result ≡ because_by octets (rule_seen rule.entry)
-        (option_map row_seen second.entry) }
+fn above_pieces(octets: usize, rule: RuleLine<'_>, second: Option<Weight>) -> Pieces<'static>
+    ensures { pieces_text result ≡ because_by octets (rule_seen rule.entry) second }
 {
     match second {
         None => Pieces::whole("because only\n"),
-        Some(other) if other.octets == octets => alike_pieces(rule, other.rule),
+        Some(other) if other.octets == octets => alike_pieces(rule, other),
         Some(other) => Pieces::of(&[
             Piece::Text("because octets "),
             Piece::Number(octets as u64),
             Piece::Text(" above "),
             Piece::Number(other.octets as u64),
             Piece::Text(" of line "),
-            Piece::Number(other.rule.line),
+            Piece::Number(other.line),
             Piece::Text("\n"),
         ]),
     }
 }
 
-fn alike_pieces<'a>(rule: RuleLine<'a>, other: RuleLine<'a>) -> Pieces<'a>
-    ensures { pieces_text result ≡ alike_text (rule_seen rule.entry) (rule_seen other.entry) }
+fn alike_pieces(rule: RuleLine<'_>, other: Weight) -> Pieces<'static>
+    ensures { pieces_text result ≡ alike_text (rule_seen rule.entry) other }
 {
     if rule.kind == other.kind {
         return Pieces::of(&[

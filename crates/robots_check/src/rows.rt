@@ -1,15 +1,14 @@
-//! The rule lines for a token compared with a path: which match, and the strongest of these.
+//! The rule lines for a token compared with a path: which match, and how the strongest of these weigh.
 //! RFC 9309, section 2.2.2.
-ghost use Rattle.std.specs.Prelude.{◌≡◌, IfOk, map, option_map};
+ghost use Rattle.std.specs.Prelude.{◌≡◌, IfOk, map};
 ghost use Rattle.std.specs.List.{All};
-ghost use Rattle.robots_check.specs.Deciding.{IsFirstOf};
 ghost use Rattle.robots_check.specs.Forms.{IsFormed, formed_rule};
-ghost use Rattle.robots_check.specs.Rows.{AreRows, IsFirst, IsRow, IsSecond, is_other, is_row_above, row_seen, stronger_row, weighed_row};
+ghost use Rattle.robots_check.specs.Rows.{AreRows, IsBestFor, IsRow, IsSecond, is_other, row_seen, row_weight, weighed_row};
 
 use crate::rules::Formed;
 use path_pattern::{Path, matches};
 use robots_text::RuleLine;
-use robots_verdict::compare_kinds;
+use robots_verdict::{Weight, stronger};
 use std::alloc::{AllocError, Global};
 
 /// A rule line compared with a path.
@@ -22,21 +21,47 @@ pub(crate) struct ComparedRule<'t> {
     pub(crate) matches: bool,
 }
 
-pub(crate) fn rows_of<'t>(
+/// The rule lines compared with a path, in order, and the weight of the strongest that matches.
+#[derive(Drop)]
+pub(crate) struct Comparison<'t> {
+    pub(crate) rows: Vec<ComparedRule<'t>>,
+    pub(crate) strongest: Option<Weight>,
+}
+
+pub(crate) fn compare<'t>(
     alloc: Global,
     rules: &[Formed<'t>],
     path: &mut Path<'_, '_>,
-) -> Result<Vec<ComparedRule<'t>>, AllocError>
+) -> Result<Comparison<'t>, AllocError>
     requires { All IsFormed rules.now }
-    ensures rows { IfOk result (λ rows.
-        AreRows path.old (map formed_rule rules.now) (map row_seen rows.items)) }
+    ensures rows { IfOk result (λ compared.
+        AreRows path.old (map formed_rule rules.now) (map row_seen compared.rows.items)) }
+    ensures strongest { IfOk result (λ compared.
+        IsBestFor path.old (map formed_rule rules.now) compared.strongest) }
     ensures stays { path.new ≡ path.old }
 {
     let mut rows = Vec::with_capacity(alloc, rules.len())?;
+    let mut strongest = None;
     for rule in rules {
-        rows.push(row_of(rule, path))?;
+        let row = row_of(rule, path);
+        strongest = weighed(strongest, row, row.matches);
+        rows.push(row)?;
     }
-    Ok(rows)
+    Ok(Comparison { rows, strongest })
+}
+
+/// The weight of the strongest of the rule lines that match the path. Takes no memory.
+pub(crate) fn strongest(rules: &[Formed<'_>], path: &mut Path<'_, '_>) -> Option<Weight>
+    requires { All IsFormed rules.now }
+    ensures strongest { IsBestFor path.old (map formed_rule rules.now) result }
+    ensures stays { path.new ≡ path.old }
+{
+    let mut best = None;
+    for rule in rules {
+        let row = row_of(rule, path);
+        best = weighed(best, row, row.matches);
+    }
+    best
 }
 
 fn row_of<'t>(formed: &Formed<'t>, path: &mut Path<'_, '_>) -> ComparedRule<'t>
@@ -52,37 +77,9 @@ fn row_of<'t>(formed: &Formed<'t>, path: &mut Path<'_, '_>) -> ComparedRule<'t>
     }
 }
 
-/// The strongest of the rule lines that match the path. Takes no memory.
-pub(crate) fn first_of<'t>(
-    rules: &[Formed<'t>],
-    path: &mut Path<'_, '_>,
-) -> Option<ComparedRule<'t>>
-    requires { All IsFormed rules.now }
-    ensures first { IsFirstOf path.old (map formed_rule rules.now) (option_map row_seen result) }
-    ensures stays { path.new ≡ path.old }
-{
-    let mut best = None;
-    for rule in rules {
-        let row = row_of(rule, path);
-        best = weighed(best, row, row.matches);
-    }
-    best
-}
-
-/// The strongest row that matches.
-pub(crate) fn first<'t>(rows: &[ComparedRule<'t>]) -> Option<ComparedRule<'t>>
-    ensures { IsFirst (map row_seen rows.now) (option_map row_seen result) }
-{
-    let mut best = None;
-    for row in rows {
-        best = weighed(best, *row, row.matches);
-    }
-    best
-}
-
-/// The strongest matching row other than this line's.
-pub(crate) fn second<'t>(rows: &[ComparedRule<'t>], line: u64) -> Option<ComparedRule<'t>>
-    ensures { IsSecond (map row_seen rows.now) line (option_map row_seen result) }
+/// The weight of the strongest matching row other than this line's.
+pub(crate) fn second(rows: &[ComparedRule<'_>], line: u64) -> Option<Weight>
+    ensures { IsSecond (map row_seen rows.now) line result }
 {
     let mut best = None;
     for row in rows {
@@ -98,38 +95,22 @@ fn is_other(row: ComparedRule<'_>, line: u64) -> bool
 }
 
 // The better of the best and one more row, if it counts.
-fn weighed<'t>(
-    best: Option<ComparedRule<'t>>,
-    row: ComparedRule<'t>,
-    counts: bool,
-) -> Option<ComparedRule<'t>>
-    ensures { option_map row_seen result
-        ≡ weighed_row counts (option_map row_seen best.entry) (row_seen row.entry) }
+fn weighed(best: Option<Weight>, row: ComparedRule<'_>, counts: bool) -> Option<Weight>
+    ensures { result ≡ weighed_row counts best (row_seen row.entry) }
 {
     if counts {
-        Some(stronger(best, row))
+        Some(stronger(best, weight_of(row)))
     } else {
         best
     }
 }
 
-fn stronger<'t>(best: Option<ComparedRule<'t>>, other: ComparedRule<'t>) -> ComparedRule<'t>
-    ensures { row_seen result
-        ≡ stronger_row (option_map row_seen best.entry) (row_seen other.entry) }
+fn weight_of(row: ComparedRule<'_>) -> Weight
+    ensures { result ≡ row_weight (row_seen row.entry) }
 {
-    match best {
-        Some(best) if !is_above(other, best) => best,
-        _ => other,
+    Weight {
+        octets: row.octets,
+        kind: row.rule.kind,
+        line: row.rule.line,
     }
-}
-
-fn is_above(one: ComparedRule<'_>, other: ComparedRule<'_>) -> bool
-    ensures { result ≡ is_row_above (row_seen one.entry) (row_seen other.entry) }
-{
-    other
-        .octets
-        .cmp(&one.octets)
-        .then(compare_kinds(one.rule.kind, other.rule.kind))
-        .then(one.rule.line.cmp(&other.rule.line))
-        .is_lt()
 }

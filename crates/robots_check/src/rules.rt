@@ -1,18 +1,15 @@
 //! The rule lines for a token in order, with their patterns normalized once for all URLs, and their places
 //! by number. RFC 9309, section 2.2.2.
-ghost use Rattle.std.specs.Prelude.{◌≡◌, ◌<◌, ℕ, IfOk, map, option_map};
+ghost use Rattle.std.specs.Prelude.{◌≡◌, ◌<◌, ℕ, IfOk, None, map};
 ghost use Rattle.std.specs.List.{All};
-ghost use Rattle.std.specs.List.Sorted.{IsNonDecreasing};
 ghost use Rattle.path_normal.specs.Normal.{normal_pattern};
 ghost use Rattle.robots_text.specs.Grouped.{grouped_seen};
-ghost use Rattle.robots_text.specs.Walk.{rule_seen};
+ghost use Rattle.robots_text.specs.Walk.{rule_seen, rules_from, speaks};
 ghost use Rattle.robots_check.specs.Forms.{IsFormed, formed_rule};
 ghost use Rattle.robots_check.specs.Rules.{IsRising, IsRuleAt};
-ghost use Rattle.robots_check.specs.Said.{rule_in, rules_in};
 
-use crate::groups::has_group;
 use path_normal::{is_kept_pattern, normal_pattern};
-use robots_text::{GroupedRecord, RecordKind, RuleLine};
+use robots_text::{GroupedRecord, RuleLine, RuleWalk, Whom};
 use std::alloc::{AllocError, Global};
 
 /// A rule line, with its pattern's normal form if that is written otherwise.
@@ -48,38 +45,24 @@ impl<'t> Formed<'t> {
     }
 }
 
-/// The rule lines of these groups.
+/// The rule lines for them.
 pub(crate) fn rules_in<'t>(
     alloc: Global,
     said: &[GroupedRecord<'t>],
-    groups: &[u64],
+    whom: Whom<'_>,
 ) -> Result<Vec<Formed<'t>>, AllocError>
-    requires { IsNonDecreasing groups.now }
     ensures rules { IfOk result (λ rules. map formed_rule rules.items
-        ≡ rules_in groups.now (map grouped_seen said.now)) }
+        ≡ rules_from (speaks whom.entry) None (map grouped_seen said.now)) }
     ensures formed { IfOk result (λ rules. All IsFormed rules.items) }
 {
     let mut rules = Vec::new(alloc);
+    let mut walk = RuleWalk::new(whom);
     for line in said {
-        if let Some(rule) = rule_in(groups, *line) {
+        if let Some(rule) = walk.rule_of(*line) {
             rules.push(Formed::of(alloc, rule)?)?;
         }
     }
     Ok(rules)
-}
-
-fn rule_in<'t>(groups: &[u64], line: GroupedRecord<'t>) -> Option<RuleLine<'t>>
-    requires { IsNonDecreasing groups.now }
-    ensures { option_map rule_seen result ≡ rule_in groups.now (grouped_seen line.entry) }
-{
-    match line.kind {
-        RecordKind::Rule(kind, pattern) if has_group(groups, line.group) => Some(RuleLine {
-            line: line.line,
-            kind,
-            pattern,
-        }),
-        _ => None,
-    }
 }
 
 /// The place of the rule line with a number, which must exist.

@@ -34,11 +34,13 @@ pub(crate) fn token_lines<'t>(
 {
     let lines = said.lines.as_slice();
     let whom = whom_among(lines, token.text().as_bytes());
-    let groups = groups_that(alloc, lines, whom)?;
-    let rules = rules_in(alloc, lines, groups.as_slice())?;
+    let rules = rules_in(alloc, lines, whom)?;
     let agents = match detail {
         Detail::Plain => Vec::new(alloc),
-        Detail::Explained => heads_in(alloc, lines, whom, groups.as_slice())?,
+        Detail::Explained => {
+            let groups = groups_that(alloc, lines, whom)?;
+            heads_in(alloc, lines, whom, groups.as_slice())?
+        }
     };
     Ok(TokenLines { rules, agents })
 }

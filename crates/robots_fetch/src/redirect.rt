@@ -32,7 +32,7 @@ pub enum Nowhere {
 /// Where a redirect from this URL leads, after so many redirects, among pages of these schemes: it may lead
 /// from each to each (RFC 9309, 2.3.1.2 has no rule on schemes). `TooManyRedirects` comes first, whatever
 /// the Location, which may be relative (RFC 9110, 10.2.2). Of several faults the one that
-/// `PageUrl::read_on_among` reports decides.
+/// `Schemes::read_page_on` reports decides.
 pub fn redirect_target(
     schemes: Schemes,
     followed: u64,
@@ -48,7 +48,7 @@ pub fn redirect_target(
     let Some(location) = location else {
         return Err(Nowhere::Stop(Stop::BadRedirect));
     };
-    match url.read_on_among(schemes, location.as_str()) {
+    match schemes.read_page_on(url, location.as_str()) {
         Ok(page) => Ok(page),
         Err(Unread::Fault(UrlFault::NotHttp)) => Err(Nowhere::Stop(Stop::Scheme)),
         Err(Unread::Fault(_)) => Err(Nowhere::Stop(Stop::BadRedirect)),

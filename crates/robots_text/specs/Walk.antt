@@ -1,8 +1,9 @@
 -- The walk over the grouped records that finds a token's rules, and its remaining part.
--- Cited by `RulesFor`.
+-- Cited by `RuleWalk` and `RulesFor`.
 use Rattle.std.specs.Prelude.{ℕ, ◌==◌, ◌&&◌, Bool, false, List, [], ◌∷◌, Option, Some, None, if◌then◌else◌}
 use Rattle.std.specs.List.{cons_option}
 use Rattle.robots_text.specs.declared.groups.RuleLine.{RuleLine}
+use Rattle.robots_text.specs.declared.groups.RuleWalk.{RuleWalk}
 use Rattle.robots_text.specs.declared.groups.RulesFor.{RulesFor}
 use Rattle.robots_text.specs.declared.groups.Whom.{Whom}
 use Rattle.robots_text.specs.declared.groups.Whom.TheVariants as whoms
@@ -38,9 +39,13 @@ rules_from test last (first ∷ lines) =
     cons_option (ruled_in (speaking_group test last first.group first.kind) first.group first.line first.kind)
     (rules_from test (speaking_group test last first.group first.kind) lines)
 
+-- the rule lines that the walk finds among the records behind it
+abbrev pub rules_behind : RuleWalk → List Grouped → List Ruled
+rules_behind walk lines = rules_from (speaks walk.whom) walk.group lines
+
 -- the remaining rule lines
 abbrev pub rules_left : RulesFor → List Ruled
-rules_left walk = rules_from (speaks walk.whom) walk.group (grouped_left walk.records)
+rules_left rules = rules_behind rules.walk (grouped_left rules.records)
 
 -- a rule line, as seen
 abbrev pub rule_seen : RuleLine → Ruled

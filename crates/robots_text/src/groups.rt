@@ -6,7 +6,7 @@ ghost use Rattle.robots_text.specs.Left.{records_left};
 ghost use Rattle.robots_text.specs.Records.{Record, kind_seen};
 ghost use Rattle.robots_text.specs.Walk.{speaks};
 
-use crate::grouped::GroupedRecords;
+use crate::grouped::{GroupedRecord, GroupedRecords};
 use crate::record::{Agent, RecordKind, RuleKind};
 use crate::records::Records;
 use crate::text::RobotsText;
@@ -30,13 +30,54 @@ pub enum Whom<'a> {
     Everybody,
 }
 
+/// A walk over grouped records, in order, that finds the rule lines for some crawlers.
+#[derive(Clone, Copy)]
+pub struct RuleWalk<'k> {
+    whom: Whom<'k>,
+    // The last group with a user-agent line for them.
+    group: Option<u64>,
+}
+
+impl<'k> RuleWalk<'k> {
+    ghost use Rattle.std.specs.Prelude.{◌∷◌, List, None, option_map};
+    ghost use Rattle.std.specs.List.{cons_option};
+    ghost use Rattle.robots_text.specs.Grouped.{Grouped, grouped_seen};
+    ghost use Rattle.robots_text.specs.Walk.{rule_seen, rules_behind, rules_from};
+
+    /// A walk that begins.
+    pub fn new(whom: Whom<'k>) -> RuleWalk<'k>
+        ensures { (lines : List Grouped)
+            → rules_behind result lines ≡ rules_from (speaks whom.entry) None lines }
+    {
+        RuleWalk { whom, group: None }
+    }
+
+    /// Takes the next record: its rule line, if it is one for them.
+    pub fn rule_of<'t>(&mut self, item: GroupedRecord<'t>) -> Option<RuleLine<'t>>
+        ensures { (lines : List Grouped)
+            → rules_behind self.old (grouped_seen item.entry ∷ lines)
+            ≡ cons_option (option_map rule_seen result) (rules_behind self.new lines) }
+    {
+        match item.kind {
+            RecordKind::Agent(_) if speaks(self.whom, item.kind) => {
+                self.group = Some(item.group);
+                None
+            }
+            RecordKind::Rule(kind, pattern) if self.group == Some(item.group) => Some(RuleLine {
+                line: item.line,
+                kind,
+                pattern,
+            }),
+            _ => None,
+        }
+    }
+}
+
 /// The remaining rule lines for a token. Takes no memory.
 #[derive(Drop)]
 pub struct RulesFor<'t, 'k> {
     records: GroupedRecords<'t>,
-    whom: Whom<'k>,
-    // The last group with a user-agent line for them.
-    group: Option<u64>,
+    walk: RuleWalk<'k>,
 }
 
 impl RobotsText {
@@ -49,10 +90,10 @@ impl RobotsText {
     pub fn rules_for<'t, 'k>(&'t self, token: &'k Token) -> RulesFor<'t, 'k>
         ensures { AreRulesFor (numbered_records self.now) token.now (rules_left result) }
     {
+        let whom = whom_for(self.records(), token.text().as_bytes());
         RulesFor {
             records: self.groups(),
-            whom: whom_for(self.records(), token.text().as_bytes()),
-            group: None,
+            walk: RuleWalk::new(whom),
         }
     }
 }
@@ -69,18 +110,8 @@ impl<'t, 'k> Iterator for RulesFor<'t, 'k> {
 
     fn next(&mut self) -> Option<RuleLine<'t>> {
         while let Some(record) = self.records.next() {
-            match record.kind {
-                RecordKind::Agent(_) if speaks(self.whom, record.kind) => {
-                    self.group = Some(record.group);
-                }
-                RecordKind::Rule(kind, pattern) if self.group == Some(record.group) => {
-                    return Some(RuleLine {
-                        line: record.line,
-                        kind,
-                        pattern,
-                    });
-                }
-                _ => {}
+            if let Some(rule) = self.walk.rule_of(record) {
+                return Some(rule);
             }
         }
         None

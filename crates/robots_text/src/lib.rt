@@ -14,7 +14,7 @@ mod token;
 mod words;
 
 pub use grouped::{GroupedRecord, GroupedRecords};
-pub use groups::{RuleLine, RulesFor, Whom, speaks, whom_for};
+pub use groups::{RuleLine, RuleWalk, RulesFor, Whom, speaks, whom_for};
 pub use last_token::LastToken;
 pub use record::{Agent, RecordKind, RecordLine, RuleKind};
 pub use records::Records;

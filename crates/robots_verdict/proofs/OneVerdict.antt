@@ -3,20 +3,24 @@
 use Rattle.std.proofs.Common.{◌≡◌, ℕ, List, refl, sym, ap, ◌∙◌}
 use Rattle.robots_text.specs.declared.record.RuleKind.{RuleKind}
 use Rattle.robots_text.specs.declared.record.RuleKind.TheVariants as kinds
+use Rattle.robots_text.specs.Groups.{Ruled}
 use Rattle.robots_text.specs.Records.{Numbered}
 use Rattle.robots_verdict.specs.declared.decision.Allowed.TheVariants.{Line, NoRule, RobotsPath}
 use Rattle.robots_verdict.specs.declared.decision.Verdict.{Verdict}
 use Rattle.robots_verdict.specs.declared.decision.Verdict.TheVariants.{Allow, Deny}
-use Rattle.robots_verdict.specs.Verdict.{Decides, IsVerdict}
+use Rattle.robots_verdict.specs.Verdict.{Decides, IsStrongest, IsVerdict}
 use Rattle.robots_verdict.specs.Weights.{weight_of}
-use Rattle.robots_verdict.proofs.Weighing.{same_line}
+use Rattle.robots_verdict.proofs.Weighing.{same_weight}
+
+pub one_weight : (lines : List Numbered) (word path : List ℕ) (one other : Ruled) → IsStrongest lines word path one → IsStrongest lines word path other → weight_of one ≡ weight_of other
+one_weight lines word path one other is is' =
+    same_weight (weight_of one) (weight_of other) (is'.strongest one is.applies) (is.strongest other is'.applies)
 
 one_line : (lines : List Numbered) (word path : List ℕ) (line other : ℕ) (kind kind' : RuleKind) →
     Decides lines word path line kind → Decides lines word path other kind' → (kind ≡ kind') × (line ≡ other)
 one_line lines word path line other kind kind' one two =
-    let same = same_line (weight_of one.ruled) (weight_of two.ruled)
-    (two.strongest.strongest one.ruled one.strongest.applies) (one.strongest.strongest two.ruled two.strongest.applies) in
-    (sym one.is_kind ∙ same.0 ∙ two.is_kind, sym one.is_line ∙ same.1 ∙ two.is_line)
+    let same = one_weight lines word path one.ruled two.ruled one.strongest two.strongest in
+    (sym one.is_kind ∙ ap (λ w. w.kind) same ∙ two.is_kind, sym one.is_line ∙ ap (λ w. w.line) same ∙ two.is_line)
 
 no_kind : kinds.Allow ≡ kinds.Disallow → ⊥
 no_kind same = cc

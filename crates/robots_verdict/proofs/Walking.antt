@@ -1,5 +1,5 @@
 -- A walk over the rules for a token keeps the strongest one passed.
--- Used by `verdict_plain`.
+-- Used by the walks for the strongest, and by those of `robots_check`.
 use Rattle.std.proofs.Common.{◌≡◌, ℕ, Bool, true, false, ◌⊎◌, inl, inr, List, [], ◌∷◌, Contains, refl, sym, ap, ◌∙◌, subst}
 use Rattle.std.specs.Prelude.{Option, Some, None}
 use Rattle.std.specs.declared.cmp.Ordering.{Ordering}
@@ -46,10 +46,10 @@ less Less is = refl
 less Equal is = absurd (true≢false (sym is))
 less Greater is = absurd (true≢false (sym is))
 
-itself : (w : Weight) → is_above w w ≡ false
+pub itself : (w : Weight) → is_above w w ≡ false
 itself w = ap is_lt (tied_itself falling_total w)
 
-through : (w first best : Weight) (is : Bool) → is_above w first ≡ is → is_above w best ≡ false → is_above first best ≡ true → is ≡ false
+pub through : (w first best : Weight) (is : Bool) → is_above w first ≡ is → is_above w best ≡ false → is_above first best ≡ true → is ≡ false
 through w first best true above not up =
     let whole = falling_total.trans w first best (less (falling w first) above) (less (falling first best) up) in
     absurd (true≢false (sym (ap is_lt whole) ∙ not))

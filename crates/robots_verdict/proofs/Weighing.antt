@@ -40,9 +40,8 @@ same_kind Disallow Disallow same = refl
 both : (x y : ℕ) → x ≤ y → y ≤ x → x ≡ y
 both x y low high = omega arith
 
-pub same_line : (one other : Weight) → is_lt (falling one other) ≡ false → is_lt (falling other one) ≡ false →
-    (one.kind ≡ other.kind) × (one.line ≡ other.line)
-same_line one other below above =
+pub same_weight : (one other : Weight) → is_lt (falling one other) ≡ false → is_lt (falling other one) ≡ false → one ≡ other
+same_weight one other below above =
     let octets = level other.octets one.octets _ below in
     let octets' = level one.octets other.octets _ above in
     let as_many : one.octets ≡ other.octets = both one.octets other.octets octets.0 octets'.0 in
@@ -51,4 +50,6 @@ same_line one other below above =
     let as_kind : kind_place one.kind ≡ kind_place other.kind = both (kind_place one.kind) (kind_place other.kind) kinds'.0 kinds.0 in
     let low = last_level one.line other.line (kinds.1 as_kind) in
     let high = last_level other.line one.line (kinds'.1 (sym as_kind)) in
-    (same_kind one.kind other.kind as_kind, both one.line other.line high low)
+    let kind = same_kind one.kind other.kind as_kind in
+    let line = both one.line other.line high low in
+    λ i. record { octets = as_many i; kind = kind i; line = line i }

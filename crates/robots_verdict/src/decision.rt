@@ -1,8 +1,9 @@
 //! What a policy says of a path, and by which line.
 //! RFC 9309, section 2.2.2.
-ghost use Rattle.std.specs.Prelude.{◌≡◌, ◌↔◌, IsTrue};
-ghost use Rattle.robots_verdict.specs.Verdict.{robots_path};
-ghost use Rattle.robots_verdict.specs.Strongest.{verdict_of};
+ghost use Rattle.std.specs.Prelude.{◌≡◌, ◌↔◌, ℕ, IsTrue, List};
+ghost use Rattle.robots_text.specs.Records.{Numbered};
+ghost use Rattle.robots_verdict.specs.Verdict.{IsVerdict, robots_path};
+ghost use Rattle.robots_verdict.specs.Strongest.{IsBest, verdict_of};
 
 use crate::weight::Weight;
 use robots_text::RuleKind;
@@ -30,6 +31,18 @@ pub(crate) fn is_robots_path(path: &[u8]) -> bool
     ensures { IsTrue result ↔ (path.now ≡ robots_path) }
 {
     path == b"/robots.txt".as_slice()
+}
+
+/// The verdict on a path, in normal form, by the strongest line that applies to it.
+pub fn verdict_on(path: &[u8], strongest: Option<Weight>) -> Verdict
+    ensures { (lines : List Numbered) (word : List ℕ) → IsBest lines word path.now strongest
+        → IsVerdict lines word path.now result }
+{
+    if is_robots_path(path) {
+        Verdict::Allow(Allowed::RobotsPath)
+    } else {
+        verdict_of(strongest)
+    }
 }
 
 /// The verdict by the strongest line that applies.

@@ -72,11 +72,11 @@ fn take(
         ≡ rows.old.rows ++ placed_at item.entry.group item.entry.line (kind_seen item.entry.kind)) }
     ensures octets { IfOk result (λ _. rows.new.octets
         ≤ rows.old.octets + 3 * value_octets (kind_seen item.entry.kind)) }
-    ensures named { IfOk result (λ _. map name_seen names.new.names.items
+    ensures names { IfOk result (λ _. (map name_seen names.new.names.items
         ≡ map name_seen names.old.names.items
-        ++ named_at item.entry.group (kind_seen item.entry.kind)) }
-    ensures everybody { IfOk result (λ _. names.new.everybody.items
-        ≡ names.old.everybody.items ++ everybody_at item.entry.group (kind_seen item.entry.kind)) }
+        ++ named_at item.entry.group (kind_seen item.entry.kind))
+        × (names.new.everybody.items
+        ≡ names.old.everybody.items ++ everybody_at item.entry.group (kind_seen item.entry.kind))) }
 {
     match item.kind {
         RecordKind::Agent(who) => names.push(alloc, who, item.group as u32),

@@ -22,8 +22,8 @@ mod said;
 mod weight;
 
 pub use answer::{Answer, Closure, Opening};
-pub use decision::{Allowed, Verdict};
-pub use policy::Policy;
+pub use decision::{Allowed, Verdict, verdict_on};
+pub use policy::{Policy, pays_to_sort};
 pub use rules::{Rules, with_index};
 pub use said::{PolicyHandle, Said};
-pub use weight::compare_kinds;
+pub use weight::{Weight, stronger};

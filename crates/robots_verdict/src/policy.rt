@@ -207,6 +207,11 @@ impl Policy {
     }
 }
 
+/// Whether sorting a path's places pays where each pattern of a text may be tried on it.
+pub fn pays_to_sort(text: &RobotsText, path: &[u8]) -> bool {
+    path.len() > SHORT_PATH && has_more_stars(text.bytes(), FEW_STARS)
+}
+
 fn has_more_stars(text: &[u8], count: usize) -> bool {
     memchr_iter(b'*', text).nth(count).is_some()
 }

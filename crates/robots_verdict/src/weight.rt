@@ -9,8 +9,8 @@ use robots_text::RuleKind;
 use std::cmp::Ordering;
 
 /// A rule line's rank: the octets of its pattern in normal form, then its kind, then its line.
-#[derive(Clone, Copy)]
-pub(crate) struct Weight {
+#[derive(Clone, Copy, Debug, PartialEq, Eq)]
+pub struct Weight {
     pub octets: usize,
     pub kind: RuleKind,
     pub line: u64,
@@ -35,8 +35,8 @@ impl Weight {
     }
 }
 
-/// The order of two kinds, stronger first.
-pub fn compare_kinds(one: RuleKind, other: RuleKind) -> Ordering
+// The order of two kinds, stronger first.
+fn compare_kinds(one: RuleKind, other: RuleKind) -> Ordering
     ensures { result ≡ nat_cmp (kind_place one) (kind_place other) }
 {
     match (one, other) {
@@ -47,7 +47,7 @@ pub fn compare_kinds(one: RuleKind, other: RuleKind) -> Ordering
 }
 
 /// The stronger of the two; if they rank alike, the former.
-pub(crate) fn stronger(best: Option<Weight>, other: Weight) -> Weight
+pub fn stronger(best: Option<Weight>, other: Weight) -> Weight
     ensures { result ≡ stronger best other }
 {
     match best {

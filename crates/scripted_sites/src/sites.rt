@@ -5,11 +5,12 @@ ghost use Rattle.scripted_sites.specs.Scripted.{IsScripted, scripted_response};
 
 use counted_io::Counted;
 use fetchers::{Fetcher, PageLeave, RobotsLeave};
-use http_client::{Deadline, Failure};
+use http_client::Failure;
 use http_wire::{HttpReply, WireFault, read_response};
 use path_normal::{PageUrl, Schemes};
 use robots_text::MAX_TEXT;
 use std::alloc::Global;
+use stream_waits::Deadline;
 
 // The octets read of a robots.txt: those that are kept, and one that shows that there are more.
 const ROBOTS_LIMIT: usize = MAX_TEXT + 1;

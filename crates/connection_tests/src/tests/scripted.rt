@@ -1,11 +1,11 @@
 //! A clock set by hand, and a client that follows a script.
 
 use client_connections::Closes;
-use http_client::Waits;
 use std::cell::Cell;
 use std::io::{ErrorKind, Read, Write};
 use std::time::Duration;
 use std::{io, time};
+use stream_waits::Waits;
 
 /// A clock on which only waits take time.
 #[derive(Drop)]

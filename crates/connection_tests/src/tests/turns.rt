@@ -4,13 +4,13 @@
 use super::demand;
 use super::scripted::{HandClock, ScriptStep, Scripted};
 use client_connections::{AtHand, ClientStream, FetchedAhead, LinesInTurn, RepliesInTurn, Waiting};
-use http_client::Waits;
 use std::alloc::Global;
 use std::cell::Cell;
 use std::io;
 use std::io::{Read, Write};
 use std::test::Fail;
 use std::time::{Clock, Duration};
+use stream_waits::Waits;
 
 // The patience, and the limit of fetching for lines sent ahead, in seconds.
 const PATIENCE: u64 = 300;

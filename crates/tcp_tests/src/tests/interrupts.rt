@@ -1,12 +1,13 @@
 //! Interrupted reads and writes, and those out of time.
 
 use super::demand;
-use http_client::{Deadline, Failure, TimedStream, Waits};
+use http_client::{Failure, TimedStream};
 use std::io::{ErrorKind, Read, Write};
 use std::sync::atomic::AtomicBool;
 use std::test::Fail;
 use std::time::{Duration, Instant};
 use std::{io, time};
+use stream_waits::{Deadline, Waits};
 
 // A connection whose first calls a signal interrupts. Later calls move one octet each.
 #[derive(Drop)]

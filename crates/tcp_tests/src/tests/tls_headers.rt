@@ -93,7 +93,7 @@ fn headers(rt: HostRuntime) -> Result<(), Fail> {
 
 fn check_headers(alloc: Global, rows: &[(&str, &str, &str, [&[u8]; 4])]) -> Result<(), Fail> {
     for (name, text, address, parts) in rows {
-        let url = PageUrl::parse_among(alloc, Schemes::HttpAndHttps, text)?;
+        let url = Schemes::HttpAndHttps.parse_page(alloc, text)?;
         demand(has_parts(alloc, &url, address, parts)?, name)?;
     }
     Ok(())
@@ -147,5 +147,5 @@ fn https_page(alloc: Global, octets: usize) -> Result<PageUrl, Fail> {
     for _ in 0..octets {
         text.push('a')?;
     }
-    Ok(PageUrl::parse_among(alloc, Schemes::HttpAndHttps, text.as_str())?)
+    Ok(Schemes::HttpAndHttps.parse_page(alloc, text.as_str())?)
 }

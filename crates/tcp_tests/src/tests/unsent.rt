@@ -29,7 +29,7 @@ fn failure_of<R: Net<Stream = TcpStream> + time::Clock>(
     whole: Duration,
     text: &str,
 ) -> Result<Option<Failure>, Fail> {
-    let url = PageUrl::parse_among(alloc, Schemes::HttpAndHttps, text)?;
+    let url = Schemes::HttpAndHttps.parse_page(alloc, text)?;
     let step = Duration::from_secs(20);
     let limits = TimeLimits {
         connect: step,

@@ -69,11 +69,11 @@ const PAGES: &[(&str, &str, &str, &str, &str, &str)] = &[
 #[test]
 fn both_schemes_are_read(rt: HostRuntime) -> Result<(), Fail> {
     for (text, url, authority, host, target, robots) in PAGES {
-        let page = PageUrl::parse_among(rt.alloc(), Schemes::HttpAndHttps, text)?;
+        let page = Schemes::HttpAndHttps.parse_page(rt.alloc(), text)?;
         let parts = [page.text(), page.authority(), page.host(), page.target()];
         let is_read = parts == [*url, *authority, *host, *target];
         demand(is_read && has_robots(&page, robots)?, text)?;
-        let named = Authority::new_among(rt.alloc(), Schemes::HttpAndHttps, authority)?;
+        let named = Schemes::HttpAndHttps.parse_authority(rt.alloc(), authority)?;
         demand(named.text() == *authority, text)?;
     }
     Ok(())
@@ -135,7 +135,7 @@ const NO_AUTHORITIES: [&str; 5] = [
 #[test]
 fn no_authorities(rt: HostRuntime) -> Result<(), Fail> {
     for text in NO_AUTHORITIES {
-        let named = Authority::new_among(rt.alloc(), Schemes::HttpAndHttps, text);
+        let named = Schemes::HttpAndHttps.parse_authority(rt.alloc(), text);
         demand(is_bad(named), text)?;
     }
     Ok(())

@@ -7,7 +7,7 @@ use gate_core::Limits;
 use gate_history::Entry;
 use gate_lock::{Gate, GateLock, Mark};
 use gate_settlement::{Visit, with_gate};
-use http_client::{Deadline, Failure};
+use http_client::Failure;
 use http_wire::{HttpReply, WireFault};
 use page_worker::{Clock, work};
 use path_normal::{PageUrl, Schemes};
@@ -18,6 +18,7 @@ use std::random::RandomSource;
 use std::sync::Wait;
 use std::sync::atomic::{AtomicU64, Ordering};
 use std::test::Fail;
+use stream_waits::Deadline;
 
 // An entry's letter and its moment, if it has one: `B`, `A`, `G`, `N`, `S` and `F` are begun, arrived, granted,
 // denied, started and finished.
@@ -112,7 +113,7 @@ impl Fetcher for Changing {
         _failure: &mut Option<Failure>,
     ) -> Result<HttpReply, WireFault> {
         leave.spend();
-        Ok(reply(200, Vec::new(self.alloc)))
+        Ok(reply(self.alloc, 200, Vec::new(self.alloc)))
     }
 
     fn load_robots(
@@ -123,20 +124,21 @@ impl Fetcher for Changing {
     ) -> Result<HttpReply, WireFault> {
         leave.spend();
         if self.robots.fetch_add(1, Ordering::SeqCst) == 0 {
-            return Ok(reply(404, Vec::new(self.alloc)));
+            return Ok(reply(self.alloc, 404, Vec::new(self.alloc)));
         }
         match Vec::from_slice(self.alloc, b"User-agent: *\nDisallow: /\n") {
-            Ok(body) => Ok(reply(200, body)),
+            Ok(body) => Ok(reply(self.alloc, 200, body)),
             Err(_) => Err(WireFault::Device),
         }
     }
 }
 
-fn reply(status: u16, body: Vec<u8>) -> HttpReply {
+fn reply(alloc: Global, status: u16, body: Vec<u8>) -> HttpReply {
     HttpReply {
         status,
         location: None,
         max_age: None,
+        head: Vec::new(alloc),
         body,
         cut: false,
     }

@@ -21,9 +21,3 @@ returns-clause-answers c = order.answer_alike
 
 pub returns-clause-decides : goal.returns-clause-decides
 returns-clause-decides c = legal.decide_alike
-
-pub returns-clause-behind : goal.returns-clause-behind
-returns-clause-behind c = legal.legal_behind
-
-pub returns-clause-ahead : goal.returns-clause-ahead
-returns-clause-ahead c = legal.legal_ahead

@@ -8,10 +8,10 @@ use Rattle.http_wire.proofs.response.read_reply.Goals as goal
 pub returns-clause-tells : goal.returns-clause-tells
 returns-clause-tells g c =
     reply_told (g.S.Source.left c.args.source.now) (g.S.Source.left c.read_final.new.source) c.read_final.new.buffer c.in_ok-head.head c.args.limit
-    c.in_ok-body.body _ c.in_ok-head.ensures.grows c.in_ok-head.ensures.found c.in_ok-body.ensures.reads refl
+    c.in_ok-body.body _ c.in_ok-head.ensures.grows c.in_ok-head.ensures.found.0 c.in_ok-body.ensures.reads refl
 
 pub returns-in_err-body-clause-tells : goal.returns-in_err-body-clause-tells
 returns-in_err-body-clause-tells g c =
     subst (Tells (g.S.Source.left c.args.source.now) c.args.limit) (sym (same_fault _ _ c.from_residual-in_err-body.ensures.1))
     (fault_told (g.S.Source.left c.args.source.now) (g.S.Source.left c.read_final.new.source) c.read_final.new.buffer c.in_ok-head.head c.args.limit
-    c.in_err-body.field-0.0 c.in_ok-head.ensures.grows c.in_ok-head.ensures.found c.in_ok-head.ensures.few c.in_err-body.ensures.reads)
+    c.in_err-body.field-0.0 c.in_ok-head.ensures.grows c.in_ok-head.ensures.found.0 c.in_ok-head.ensures.found.1 c.in_err-body.ensures.reads)

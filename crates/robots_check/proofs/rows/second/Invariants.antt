@@ -1,8 +1,7 @@
 -- The best of the others so far is known.
 use Rattle.std.proofs.Common.{map, take}
-use Rattle.std.specs.Prelude.{option_map}
 use Rattle.robots_check.specs.Rows.{IsSecond, row_seen}
 use Rattle.robots_check.proofs.rows.second.Given as goal
 
 abbrev pub invariant-loop-row : goal.invariant-loop-row
-invariant-loop-row l = IsSecond (map row_seen (take l.row-index l.rows)) l.line (option_map row_seen l.best)
+invariant-loop-row l = IsSecond (map row_seen (take l.row-index l.rows)) l.line l.best

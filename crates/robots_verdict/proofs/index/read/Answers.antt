@@ -27,4 +27,4 @@ loop-item-preserved c =
     let everybody = c.loop-item.names.everybody.items in
     let reading = subst (λ (left : List Grouped). IsReading all left rows.rows rows.octets named everybody) c.in-Some.ensures.steps c.loop-item.invariant in
     read_one all (grouped_left c.next.new.self) (grouped_seen c.in-Some.item) rows.rows c.take.new.rows.rows rows.octets c.take.new.rows.octets named _ everybody _ reading
-    c.in_ok-take.ensures.rows c.in_ok-take.ensures.octets c.in_ok-take.ensures.named c.in_ok-take.ensures.everybody
+    c.in_ok-take.ensures.rows c.in_ok-take.ensures.octets c.in_ok-take.ensures.names.0 c.in_ok-take.ensures.names.1

@@ -23,5 +23,5 @@ invariant_of-result c =
     subst (λ (gs : List SlotGrant). IsBehind limits gs c.in_ok-permits.permits) c.grants-2.ensures.value c.in_ok-permits.ensures in
     rw (c.moment.ensures, c.begins.ensures, c.started.ensures)
     (resumed_kept limits base c.new.result c.limited.result c.in_ok-permits.permits c.new-2.result c.new-3.result c.requires.limits is_base
-    c.requires.turns c.requires.permits c.requires.runs sealed c.new.ensures.items
-    (limit_tells c.args.cache c.limited.result base.standing base.in_flight c.requires.cache c.limited.ensures.sites) c.limited.ensures.limit fits behind c.new-3.ensures)
+    c.requires.base.turns c.requires.base.permits c.requires.base.runs sealed c.new.ensures.items
+    (limit_tells c.args.cache c.limited.result base.standing base.in_flight c.requires.base.answers c.limited.ensures.sites) c.limited.ensures.limit fits behind c.new-3.ensures)

@@ -1,0 +1,2 @@
+-- Definitions for the time that is left.
+pub mod Times
