@@ -11,6 +11,11 @@ class OutOfTime(AssertionError):
     """Something took longer than it may, or less long. It may be the machine, which was busy: the case is tried again."""
 
 
+class OutOfRoom(OutOfTime):
+    """So little memory was there that a case had nothing to show. How it is laid out under a limit is chance: the case is
+    tried again."""
+
+
 def in_time(seconds, most, least=0):
     if not least <= seconds <= most:
         raise OutOfTime(f"it took {seconds:.1f} s, and not {least:g} to {most:g}")

@@ -1,7 +1,7 @@
 -- What becomes of the queues when a place is marked anew.
 -- Used by the answers of `Queues`.
 use Rattle.std.proofs.Common.{◌≡◌, ◌+◌, ◌<◌, ℕ, zero, suc, Bool, true, false, List, [], ◌∷◌, ◌++◌, length, refl, sym, ap, subst, ◌∙◌, arith}
-use Rattle.std.specs.Prelude.{◌==◌, eqb, replicate, slice_get, slice_set, Option, Some, None, if◌then◌else◌}
+use Rattle.std.specs.Prelude.{◌==◌, eqb, replicate, slice_get, slice_set, Some, None, if◌then◌else◌}
 use Rattle.std.proofs.lemmas.Bool.{eq-eqb, eqb-false, eqb-true}
 use Rattle.turns.specs.declared.queues.PlaceMark.{PlaceMark}
 use Rattle.turns.specs.declared.queues.PlaceMark.TheVariants.{Free, Waits, Parked, Quick, Slow, Ends, Served}

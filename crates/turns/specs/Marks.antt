@@ -2,7 +2,7 @@
 -- The contracts of `Queues` cite it.
 use Rattle.std.specs.Prelude.{◌≡◌, ◌+◌, ◌<◌, ◌==◌, ℕ, zero, suc, Bool, true, false, List, [], ◌∷◌, length, if◌then◌else◌}
 use Rattle.turns.specs.declared.queues.PlaceMark.{PlaceMark}
-use Rattle.turns.specs.declared.queues.PlaceMark.TheVariants.{Free, Waits, Parked, Quick, Slow, Ends, Served}
+use Rattle.turns.specs.declared.queues.PlaceMark.TheVariants.{Free, Quick, Slow, Ends}
 
 -- it has no client
 abbrev pub is_free : PlaceMark → Bool

@@ -1,11 +1,10 @@
 -- How places are called, taken by workers and given back.
 -- The contracts of `Queues` cite it.
-use Rattle.std.specs.Prelude.{◌≡◌, ◌≢◌, ◌⊎◌, ◌+◌, ◌-◌, ◌≤◌, ◌<◌, ℕ, List, [], ◌∷◌, Some, slice_get, slice_set, length, ⊤}
+use Rattle.std.specs.Prelude.{◌≡◌, ◌≢◌, ◌⊎◌, ◌+◌, ◌-◌, ◌<◌, ℕ, [], ◌∷◌, Some, slice_get, slice_set, ⊤}
 use Rattle.std.specs.VecDeque.{deque_len, deque_capacity}
 use Rattle.turns.specs.declared.queues.PlaceMark.{PlaceMark}
-use Rattle.turns.specs.declared.queues.PlaceMark.TheVariants.{Free, Waits, Parked, Quick, Slow, Ends, Served}
+use Rattle.turns.specs.declared.queues.PlaceMark.TheVariants.{Free, Waits, Parked, Quick, Slow, Served}
 use Rattle.turns.specs.declared.queues.Queues.{Queues}
-use Rattle.turns.specs.declared.queues.Clients.{Clients}
 use Rattle.turns.specs.declared.queues.Clients.TheVariants as clients
 use Rattle.turns.specs.declared.queues.Line.{Line}
 use Rattle.turns.specs.declared.queues.Line.TheVariants as line

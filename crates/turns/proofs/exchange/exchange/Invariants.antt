@@ -1,5 +1,5 @@
 -- So far, what was read was heard, and what was written was pending.
-use Rattle.std.proofs.Common.{◌≡◌, ◌<◌, ℕ, List, length}
+use Rattle.std.proofs.Common.{◌<◌, ℕ, List, length}
 use Rattle.std.specs.Io.KnownBytes.{Appends, Consumes}
 use Rattle.turns.specs.Exchanges.{Sends}
 use Rattle.turns.proofs.exchange.exchange.Given as goal

@@ -1,5 +1,5 @@
 -- The first place of the free ones is within, and the other queues do not have it.
-use Rattle.std.proofs.Common.{◌≡◌, ◌∷◌, arith, refl}
+use Rattle.std.proofs.Common.{arith, refl}
 use Rattle.std.proofs.lemmas.Grind.{common_steps}
 use Rattle.turns.specs.Marks.{is_free}
 use Rattle.turns.proofs.Marking.{is_called, is_within, leaves, free_leaves_quick, free_leaves_slow, with_first}

@@ -1,5 +1,5 @@
 -- The place waits, and the queues stay.
-use Rattle.std.proofs.Common.{◌≡◌, refl}
+use Rattle.std.proofs.Common.{refl}
 use Rattle.turns.specs.Marks.{is_free, is_quick, is_slow}
 use Rattle.turns.proofs.Marking.{stays}
 use Rattle.turns.proofs.queues.Queues.go_to.Goals as goal

@@ -1,5 +1,5 @@
 -- The first place of the quick queue was called, so it is within, and the other queues do not have it.
-use Rattle.std.proofs.Common.{◌≡◌, ◌∷◌, arith, refl}
+use Rattle.std.proofs.Common.{arith, refl}
 use Rattle.std.proofs.lemmas.Grind.{common_steps}
 use Rattle.turns.specs.Marks.{is_quick}
 use Rattle.turns.proofs.Marking.{is_called, is_within, leaves, quick_leaves_free, quick_leaves_slow, with_first}

@@ -1,6 +1,5 @@
 -- The first place of the slow queue was called for a slow step, so it is within, and the other queues do not have it.
-use Rattle.std.proofs.Common.{◌≡◌, ◌<◌, ◌∷◌, arith, inl, inr, refl}
-use Rattle.turns.specs.declared.queues.Clients.TheVariants.{Shut}
+use Rattle.std.proofs.Common.{arith, inl, inr, refl}
 use Rattle.std.proofs.lemmas.Grind.{common_steps}
 use Rattle.turns.specs.Marks.{is_slow}
 use Rattle.turns.proofs.Marking.{is_called, is_within, leaves, slow_leaves_free, slow_leaves_quick, with_first}

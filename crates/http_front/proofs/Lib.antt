@@ -1,0 +1,2 @@
+-- Lemmas on which the crate's own proofs rest.
+pub mod Texts

@@ -1,0 +1,24 @@
+//! A front of HTTP: what a request asks of the gate, and how it is answered.
+//! RFC 9110 and RFC 9112; RFC 9209 for `Proxy-Status`.
+#![tactic(auto)]
+
+mod asked;
+mod causes;
+mod credentials;
+mod fields;
+mod front;
+mod hosts;
+mod metrics;
+mod own_answers;
+mod passing;
+mod proxy_status;
+mod reading;
+mod targets;
+mod telling;
+mod told;
+
+pub use asked::{CutRule, Misasked, PageWish, TargetForm, Wish};
+pub use front::{Front, front_config};
+pub use metrics::Metrics;
+pub use reading::read_request;
+pub use told::{OwnAnswer, Told};

@@ -1,0 +1,5 @@
+//! Tests of loops over many connections.
+#![tactic(auto)]
+
+#[cfg(test)]
+mod tests;
