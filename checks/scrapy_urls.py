@@ -18,12 +18,12 @@ from twisted.internet import defer, error
 from twisted.internet.testing import StringTransport
 
 
-class Session:
+class Granting:
     """It grants a permit of the URL at hand, whatever page is asked for."""
 
     url = ""
 
-    def __init__(self, *_):
+    def __init__(self, *_, **named):
         pass
 
     def begin(self, token, url):
@@ -60,7 +60,7 @@ class Wire:
 
 def handler_on(wire):
     """A handler each request of which goes there at once."""
-    crawlgate_scrapy._Session, crawlgate_scrapy.deferToThread = Session, defer.maybeDeferred
+    crawlgate_scrapy.Gates, crawlgate_scrapy.deferToThreadPool = Granting, lambda _, pool, *words: defer.maybeDeferred(*words)
     handler = crawlgate_scrapy.GateHandler(Settings({"CRAWLGATE_TOKEN": "foobot", "CRAWLGATE_PLACE": "1"}))
     handler._pool = wire
     return handler
@@ -81,7 +81,7 @@ def main(given):
         sys.exit(__doc__)
     wire = Wire()
     handler, request = handler_on(wire), Request("http://a.example/")
-    for Session.url in urls:
+    for Granting.url in urls:
         ended = []
         handler.download_request(request, None).addErrback(ended.append)
         if not ended[0].check(IgnoreRequest, error.ConnectionRefusedError):

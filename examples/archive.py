@@ -13,11 +13,13 @@ Their names are the number of entries before them, so that they sort in the orde
     000000000000.warc      WARC/1.1: the pages that were fetched since the last seal, a response record each
 
 With --journal, the folder of the server's own `--journal`, nothing is sealed and no segment is filed, since the journal
-has the history: what was entered since the last WARC file is read there. Then others may seal, and a server that was
-killed and started again has lost nothing.
+has the history: what was entered since the last WARC file is read there. Then others may seal, and a server that is
+killed and started again, before or meanwhile, has lost nothing.
 
 Until then each page lies in FOLDER/waiting, in a file of its own: a line of JSON with its URL and its hops, and the body.
-SIGINT and SIGTERM end the archive behind the page at hand, with a seal; what a killed one leaves waiting has no record.
+SIGINT and SIGTERM end the archive behind the page at hand, with a seal. With --journal the next archive of the same folders
+files first what a killed one left waiting: FOLDER/waiting/begin says from where on the journal has its starts. Without it
+these pages have no record, since their starts are in no segment here.
 
 A response record has two fields of its own: `WARC-Crawlgate-Permit`, the number of the permit, and
 `WARC-Crawlgate-Reason`, by what it was allowed: `line <n>` of the robots.txt, `norule`, `robots` or `open`. So
@@ -34,6 +36,7 @@ The last line is `pages <n> segments <m>`; what brought no page is told on stand
 not take. The status is 1 where a signal ended it.
 """
 import base64
+import fcntl
 import hashlib
 import json
 import os
@@ -57,17 +60,27 @@ INFO = (
 
 @dataclass
 class Page:
-    """What FETCH replied for a URL, as the gate writes it: the words of its hops, and the file that has the body of the last
-    one."""
+    """What FETCH replied for a URL, as the gate writes it: the words of its hops, whether the connection was lost before that,
+    and the file that has the body of the last hop."""
 
     url: str
     hops: List[str]
+    is_again: bool
     path: str
+
+    @classmethod
+    def at(cls, path):
+        with open(path, "rb") as file:
+            return cls(**json.loads(file.readline()), path=path)
 
     def body(self):
         with open(self.path, "rb") as file:
             file.readline()
             return file.read()
+
+    @property
+    def is_page(self):
+        return self.hops[-1].startswith("PAGE ")
 
     def fetches(self):
         """Returns the hops that fetched something: each of them has a start in the history."""
@@ -110,33 +123,31 @@ def entries_of(text):
 
 
 def tied(pages, starts):
-    """Returns each page that was fetched, with the start of its last fetch."""
+    """Returns each page that was fetched, with the start of its last fetch, and the starts that come later."""
     left, found = list(starts), []
     for page in pages:
+        if page.is_again:
+            # (it is the last one: what comes before its starts are those of a fetch that the server did not end)
+            left = left[len(left) - len(page.fetches()) :]
         for place, hop in enumerate(page.fetches()):
             start = left.pop(0) if left else None
             is_other = start is None or (place == 0 and start.url != page.url)
             if is_other or (hop.startswith("PAGE ") and not hop.startswith(f"PAGE {start.reason} ")):
                 sys.exit(f"archive.py: the segment has no such start of {page.url}: who else fetches under this token?")
-        if page.hops[-1].startswith("PAGE "):
+        if page.is_page:
             found.append((page, start))
-    if left:
-        sys.exit(f"archive.py: nothing was fetched here of {left[0].url}: who else fetches under this token?")
-    return found
+    return found, left
 
 
 def digest(octets):
     return "sha256:" + base64.b32encode(hashlib.sha256(octets).digest()).decode()
 
 
-def date(seconds):
-    return time.strftime("%Y-%m-%dT%H:%M:%SZ", time.gmtime(seconds))
-
-
 def record(kind, name, moment, fields, block):
     """Returns a record of WARC/1.1 (ISO 28500:2017)."""
+    date = time.strftime("%Y-%m-%dT%H:%M:%SZ", time.gmtime(moment))
     head = {
-        "WARC-Type": kind, "WARC-Record-ID": name, "WARC-Date": date(moment), **fields,
+        "WARC-Type": kind, "WARC-Record-ID": name, "WARC-Date": date, **fields,
         "WARC-Block-Digest": digest(block), "Content-Length": len(block),
     }
     lines = ["WARC/1.1", *(f"{name}: {value}" for name, value in head.items()), "", ""]
@@ -162,26 +173,37 @@ def name_of_record():
     return f"<{uuid.uuid4().urn}>"
 
 
+def write_new(path, octets):
+    """Writes a file that is not there yet."""
+    with open(os.open(path, os.O_WRONLY | os.O_CREAT | os.O_EXCL | os.O_NOFOLLOW, 0o644), "wb") as file:
+        file.write(octets)
+
+
 def keep(folder, name, octets):
     """Writes a file under a hidden name that nobody else has, brings it to the disk, and names it then. None is written
     over, nor is a link followed."""
     hidden = f"{folder}/.{name}.{uuid.uuid4().hex}"
-    with open(os.open(hidden, os.O_WRONLY | os.O_CREAT | os.O_EXCL | os.O_NOFOLLOW, 0o644), "wb") as file:
-        file.write(octets)
-        file.flush()
-        os.fsync(file.fileno())
+    write_new(hidden, octets)
+    sync(hidden)
     try:
         os.link(hidden, f"{folder}/{name}")
     except FileExistsError:
         sys.exit(f"archive.py: {folder}/{name} is there, of another run of the gate; what was to be it is {hidden}")
     os.unlink(hidden)
-    handle = os.open(folder, os.O_RDONLY)
+    sync(folder)
+
+
+def sync(path):
+    handle = os.open(path, os.O_RDONLY)
     os.fsync(handle)
     os.close(handle)
 
 
 class Seals:
     """What a gate hands out, segment by segment: each is filed first, since nobody else keeps it."""
+
+    # (what was entered before a kill is in the next segment only if nobody sealed meanwhile)
+    place = None
 
     def __init__(self, gate, folder):
         self.gate, self.folder, self.entries, self.count = gate, folder, None, 0
@@ -209,7 +231,17 @@ class Journal:
         self.octets = os.path.getsize(f"{folder}/{self.name}") if self.name else 0
 
     def names(self):
-        return sorted(it for it in os.listdir(self.folder) if not it.startswith("."))
+        return sorted(it for it in os.listdir(self.folder) if it.isdigit())
+
+    @property
+    def place(self):
+        """The file and the octet in it at which the next text begins."""
+        return [self.name, self.octets]
+
+    def go_back(self, place):
+        self.name, self.octets = place
+        if self.name and self.name not in self.names():
+            sys.exit(f"archive.py: pages that wait have their starts in {self.folder}/{self.name}: put it back")
 
     def take(self):
         text, before = b"", None
@@ -218,18 +250,13 @@ class Journal:
                 whole = file.read()
             whole = whole[: whole.rfind(b"\n") + 1]
             # (what the base of a file tells stands in the file before it)
-            head = head_of(whole)
+            head = whole.find(b"\nE\n") + 3 if whole.startswith(b"V 3\n") else whole.find(b"\n") + 1
             begin = max(head, self.octets if name == self.name else 0)
             if before is None and whole[begin:]:
                 before = int(name) + whole[head:begin].count(b"\n")
             text += whole[begin:]
             self.name, self.octets = name, len(whole)
         return text, before
-
-
-def head_of(text):
-    """Returns how many octets stand before the entries of a text."""
-    return text.find(b"\nE\n") + 3 if text.startswith(b"V 3\n") else text.find(b"\n") + 1
 
 
 class Archive:
@@ -240,14 +267,39 @@ class Archive:
         self.waiting, self.octets, self.pages = [], 0, 0
         self.sealed = time.monotonic()
         self.room = f"{folder}/waiting"
+        os.makedirs(self.room, exist_ok=True)
+        self.handle = os.open(self.room, os.O_RDONLY | os.O_DIRECTORY | os.O_NOFOLLOW)
         try:
-            os.makedirs(self.room)
-        except FileExistsError:
-            sys.exit(f"archive.py: pages of an archive that was killed are in {self.room}: move them away")
+            fcntl.flock(self.handle, fcntl.LOCK_EX | fcntl.LOCK_NB)
+        except BlockingIOError:
+            sys.exit(f"archive.py: another archive is at work in {folder}")
+        self.take_up()
+
+    def take_up(self):
+        """Files what an archive that was killed left waiting."""
+        for name in sorted(os.listdir(self.room)):
+            # (a file under a hidden name is not whole)
+            if name.startswith("."):
+                os.unlink(f"{self.room}/{name}")
+            elif name.endswith(".page"):
+                self.waiting.append(Page.at(f"{self.room}/{name}"))
+        if self.waiting:
+            if not self.texts.place or not os.path.exists(f"{self.room}/begin"):
+                sys.exit(f"archive.py: pages of an earlier archive without --journal are in {self.room}: move them away")
+            with open(f"{self.room}/begin", encoding="ascii") as file:
+                self.texts.go_back(json.load(file))
+            self.file(is_taken_up=True)
+        self.mark()
+
+    def mark(self):
+        """Keeps where the text begins that will have the starts of the pages that wait."""
+        if self.texts.place:
+            write_new(f"{self.room}/.begin", json.dumps(self.texts.place).encode())
+            os.replace(f"{self.room}/.begin", f"{self.room}/begin")
 
     def fetch(self, url):
         try:
-            written = self.gate.written(url)
+            written, connections = self.gate.written(url), self.gate.connections
             fetched = self.gate.fetch(self.token, written)
         except Refused as refused:
             return print(f"{url}: ERR {refused.word}", file=sys.stderr)
@@ -255,27 +307,50 @@ class Archive:
             return print(f"{url}: ERR chars", file=sys.stderr)
         if not fetched.is_page:
             print(f"{url}: {fetched.hops[-1]}", file=sys.stderr)
-        path = f"{self.room}/{len(self.waiting):06}.page"
-        told = json.dumps({"url": written, "hops": fetched.hops})
-        with open(os.open(path, os.O_WRONLY | os.O_CREAT | os.O_EXCL | os.O_NOFOLLOW, 0o644), "wb") as file:
-            file.write(told.encode() + b"\n" + fetched.body)
-        self.waiting.append(Page(written, fetched.hops, path))
+        name = f"{len(self.waiting):06}.page"
+        # (a page that was fetched again is the last one before a seal: so it is plain which starts are its own)
+        told = {"url": written, "hops": fetched.hops, "is_again": self.gate.connections != connections}
+        write_new(f"{self.room}/.{name}", json.dumps(told).encode() + b"\n" + fetched.body)
+        os.rename(f"{self.room}/.{name}", f"{self.room}/{name}")
+        self.waiting.append(Page(**told, path=f"{self.room}/{name}"))
         self.octets += len(fetched.body)
+        if told["is_again"]:
+            self.seal()
 
     def is_due(self, seconds):
         return self.octets >= MOST_WAITING or time.monotonic() - self.sealed >= seconds
 
     def seal(self):
-        """Files the pages since the last seal, by what was entered since then."""
+        """Files the pages since the last seal."""
+        self.file()
+        self.mark()
+
+    def file(self, is_taken_up=False):
+        """Files the pages that wait, by what was entered since the last time. Those of an archive that was killed may be filed
+        already, and behind them may be the start of a page that it did not keep."""
         text, before = self.texts.take()
         self.sealed = time.monotonic()
-        if text:
-            pages = tied(self.waiting, starts_of(text, self.token))
+        name = f"{before or 0:012}.warc"
+        if not (is_taken_up and self.is_filed(name)):
+            pages, left = tied(self.waiting, starts_of(text, self.token))
+            if left and not is_taken_up:
+                sys.exit(f"archive.py: nothing was fetched here of {left[0].url}: who else fetches under this token?")
             if pages:
-                self.write(f"{before:012}.warc", pages)
+                self.write(name, pages)
+            for start in left:
+                print(f"{start.url}: fetched, and not kept by an archive that was killed", file=sys.stderr)
         for page in self.waiting:
             os.unlink(page.path)
         self.waiting, self.octets = [], 0
+
+    def is_filed(self, name):
+        """Whether a WARC file has the pages that wait."""
+        try:
+            with open(f"{self.folder}/{name}", "rb") as file:
+                whole = file.read()
+        except FileNotFoundError:
+            return False
+        return all(digest(it.body()).encode() in whole for it in self.waiting if it.is_page)
 
     def write(self, name, pages):
         info = name_of_record()

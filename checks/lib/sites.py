@@ -85,6 +85,21 @@ class Site(Requests):
         peer.sendall(page)
 
 
+class Late(Requests):
+    """A site whose robots.txt is answered once an event is set, or after some seconds, and its pages at once. It keeps whether
+    the event was set by then."""
+
+    def __init__(self, event, seconds, page=b"late"):
+        self.event, self.seconds, self.page, self.in_time = event, seconds, page, []
+        super().__init__()
+
+    def answer(self, peer, head, target):
+        if target == "/robots.txt":
+            self.in_time.append(self.event.wait(self.seconds))
+            return peer.sendall(response(404))
+        peer.sendall(response(200, self.page, "Content-Type: text/html"))
+
+
 RULES = b"user-agent: *\ndisallow: /private\n"
 OCTETS = bytes(range(256)) * 3
 

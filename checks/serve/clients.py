@@ -137,7 +137,8 @@ def client_looks_inside():
         with open(f"{folder}/gate.prom", encoding="utf-8") as file:
             text = file.read()
         same(os.listdir(folder), ["gate.prom"])
-        same(text.count("\n"), 30)
+        same(text.count("\n"), 33)
+        assert "# TYPE crawlgate_up gauge\ncrawlgate_up 1\n" in text, text
         assert "# TYPE crawlgate_starts_total counter\ncrawlgate_starts_total 1\n" in text, text
         assert "# TYPE crawlgate_room gauge\ncrawlgate_room 999994\n" in text, text
 

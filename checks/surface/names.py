@@ -20,7 +20,7 @@ def named_twice(root):
     owners = {}
     for crate in sorted(os.listdir(f"{root}/crates")):
         for file in files_of(f"{root}/crates/{crate}/src", ".rt"):
-            for name in TYPE.findall(read(file)) if not crate.endswith("_tests") else ():
+            for name in TYPE.findall(read(file)) if not crate.startswith("tests_") else ():
                 owners.setdefault(name, set()).add(os.path.relpath(file, f"{root}/crates"))
     return [f"{name} is a type of {' and '.join(sorted(files))}" for name, files in sorted(owners.items()) if len(files) > 1]
 

@@ -10,9 +10,9 @@ A permit is good for the one URL that `permit.url` has, as the gate writes it: w
 `permit.open` fetches that text and no other, follows no redirect without a permit of its own, and sends the product token
 as User-Agent.
 
-A Gate is one session: what it was granted is its own, and goes back when it ends. Use one for each thread. The server ends
-a session that sends no line for 300 seconds, or what its --patience says; one that has more to do between two lines may
-send a `state` meanwhile. docs/FORMATS.md has every line and reply.
+A Gate is one session: what it was granted is its own, and goes back when it ends. Use one for each thread, or the Gates of
+crawlgate_threads.py. The server ends a session that sends no line for 300 seconds, or what its --patience says; one that has
+more to do between two lines may send a `state` meanwhile. docs/FORMATS.md has every line and reply.
 
 As a program, `crawlgate.py PORT TOKEN URL` has the gate fetch a page, and writes its body, and its hops to standard error.
 In place of a port it takes the path of a socket, which has a `/` in it (`crawlgate serve --socket PATH`).
@@ -59,10 +59,7 @@ class Fetched:
 class _AsItCame(urllib.request.HTTPErrorProcessor):
     """Gives each response as it came: a redirect is not followed, and no status is an error."""
 
-    def http_response(self, request, response):
-        return response
-
-    https_response = http_response
+    http_response = https_response = lambda self, request, response: response
 
 
 _OPENER = urllib.request.build_opener(_AsItCame)
@@ -142,7 +139,7 @@ class Gate:
         # the numbers of permits that are out, those that went back with a connection, and when robots.txt files were fetched
         self._out, self._lost, self._refreshed = set(), set(), {}
         # how many connections there were, since when no reply has come, and whether this Gate is at its end
-        self._connections, self._away_since, self._is_closed, self._peer, self._replies = 0, None, False, None, None
+        self.connections, self._away_since, self._is_closed, self._peer, self._replies = 0, None, False, None, None
         self._come_back()
 
     def __enter__(self):
@@ -158,6 +155,9 @@ class Gate:
     def close(self):
         """Closes the connection. The server gives the session's permits back once it sees that."""
         self._is_closed = True
+        # (another thread may wait for a reply)
+        with contextlib.suppress(OSError, AttributeError):
+            self._peer.shutdown(socket.SHUT_RDWR)
         self._drop()
 
     def _drop(self):
@@ -253,12 +253,12 @@ class Gate:
         """Starts the fetch of a page, which the caller makes itself, and ends it on the way out. It gives a Permit. The
         robots.txt is fetched first, where none is in force."""
         permit, number = self._patiently(self._started, token, url)
-        connection = self._connections
+        connection = self.connections
         try:
             yield permit
         finally:
             # (where the connection has ended the permit went back, and its number may be granted again)
-            if self._peer and connection == self._connections:
+            if self._peer and connection == self.connections:
                 with contextlib.suppress(OSError):
                     self.done(number)
 
@@ -275,20 +275,20 @@ class Gate:
         try:
             return self.ask(token, url)
         except Denied as denied:
-            if denied.cause not in ("unknown", "expired") and not self._is_to_be_retried(denied):
+            if not self._is_to_be_informed(denied):
                 raise
-            self._inform(denied.authority)
+            self.inform(denied.authority)
             return self.ask(token, url)
 
-    def _is_to_be_retried(self, denied):
-        """Whether the site is closed, and its robots.txt was not fetched by this Gate of late."""
+    def _is_to_be_informed(self, denied):
+        """Whether no answer is in force, or the site is closed, and its robots.txt was not fetched by this Gate of late."""
         if denied.cause != "closed" or self._retry_closed is None:
-            return False
+            return denied.cause in ("unknown", "expired")
         # (an answer that another session has had fetched counts as of now)
         now = time.monotonic()
         return now - self._refreshed.setdefault(denied.authority, now) >= self._retry_closed
 
-    def _inform(self, authority):
+    def inform(self, authority):
         """Has a robots.txt fetched, or waits until another session has done so."""
         try:
             self.refresh(authority)
@@ -335,7 +335,7 @@ class Gate:
         if not self._peer:
             self._peer = self._connect()
             self._replies = self._peer.makefile("rb")
-            self._connections += 1
+            self.connections += 1
 
     def _exchange(self, line):
         self._come_back()

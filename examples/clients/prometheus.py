@@ -4,11 +4,16 @@
 usage: prometheus.py PORT|SOCKET FILE.prom
 
 FILE.prom is written beside its place and renamed into it, as the collector wants it. Run it each minute, by cron or a timer.
+Where the server does not answer the file has `crawlgate_up 0` alone; standard error says why, and the status is 1. At the
+port of --seal-port, or the socket of --seal-socket, it waits for no client.
 """
 import os
 import sys
 
-from crawlgate import Gate
+from crawlgate import Gate, Refused
+
+# how long the server may take, in seconds
+SECONDS = 30
 
 # the numbers that only grow, and what each says
 COUNTERS = {
@@ -34,16 +39,29 @@ def lines_of(info):
             yield f"# HELP crawlgate_{name} {about}\n# TYPE crawlgate_{name} {kind}\ncrawlgate_{name} {info[key]}\n"
 
 
+def read_of(place):
+    """Returns the text of a server's numbers, and why there are none, if there are none."""
+    text, fault = "", None
+    try:
+        with Gate.at(place, timeout=SECONDS, away=0) as gate:
+            text = "".join(lines_of(gate.info()))
+    except (OSError, Refused) as error:
+        fault = error
+    about = "Whether the server answered."
+    up = 0 if fault else 1
+    return f"# HELP crawlgate_up {about}\n# TYPE crawlgate_up gauge\ncrawlgate_up {up}\n{text}", fault
+
+
 def main(given):
-    if len(given) != 2:
+    if len(given) != 2 or not ("/" in given[0] or given[0].isdigit()):
         sys.exit("usage: prometheus.py PORT|SOCKET FILE.prom")
     place, path = given
-    with Gate.at(place, timeout=30) as gate:
-        text = "".join(lines_of(gate.info()))
+    text, fault = read_of(place)
     with open(f"{path}.new", "w", encoding="utf-8") as file:
         file.write(text)
     os.replace(f"{path}.new", path)
+    return f"prometheus.py: no answer at {place}: {fault}" if fault else 0
 
 
 if __name__ == "__main__":
-    main(sys.argv[1:])
+    sys.exit(main(sys.argv[1:]))

@@ -6,20 +6,20 @@ permits. What is denied is ignored (`IgnoreRequest`, which an errback sees); wha
 a connection that failed is.
 """
 import contextlib
-import itertools
 import logging
 import os
 import sys
-import threading
 
 from scrapy.core.downloader.handlers.http11 import HTTP11DownloadHandler
 from scrapy.exceptions import IgnoreRequest, NotConfigured
 from twisted.internet.defer import maybeDeferred
-from twisted.internet.threads import deferToThread
+from twisted.internet.threads import deferToThreadPool
+from twisted.python.threadpool import ThreadPool
 from twisted.web.client import URI, RequestNotSent, RequestTransmissionFailed, ResponseNeverReceived
 
 sys.path.insert(0, f"{os.path.dirname(os.path.realpath(__file__))}/../clients")
-from crawlgate import AWAY, Denied, Gate, Refused
+from crawlgate import AWAY, Denied, Refused
+from crawlgate_threads import Gates
 
 LOG = logging.getLogger(__name__)
 NO_ROOM = {"busy", "permits", "authorities", "log", "memory"}
@@ -42,24 +42,6 @@ def exactly(request, url):
     raise IgnoreRequest(f"crawlgate: Scrapy can't fetch exactly {url}")
 
 
-class _Session:
-    """A session, for one thread at a time."""
-
-    def __init__(self, place, away):
-        self.gate, self.lock = Gate.at(place, away=away), threading.Lock()
-
-    def begin(self, token, url):
-        """Starts a fetch, and returns its permit, and what ends it."""
-        started = contextlib.ExitStack()
-        with self.lock:
-            permit = started.enter_context(self.gate.permit(token, url))
-        return permit, started
-
-    def end(self, started):
-        with self.lock:
-            started.close()
-
-
 class GateHandler(HTTP11DownloadHandler):
     # no session before a page is fetched
     lazy = True
@@ -75,13 +57,21 @@ class GateHandler(HTTP11DownloadHandler):
         if not self._token or not place:
             raise NotConfigured("CRAWLGATE_TOKEN and CRAWLGATE_PLACE")
         count, away = settings.getint("CRAWLGATE_SESSIONS", 4), settings.getint("CRAWLGATE_AWAY", AWAY)
-        self._sessions = [_Session(place, away) for _ in range(count)]
-        self._turns = itertools.cycle(self._sessions)
+        self._gates = Gates(place, count, away=away)
+        # (a request whose site's robots.txt is being fetched waits in a thread: Twisted's own are few, and for all)
+        self._threads = ThreadPool(0, settings.getint("CONCURRENT_REQUESTS", 16), "crawlgate")
+        self._threads.start()
 
     def close(self):
-        for session in self._sessions:
-            session.gate.close()
+        self._gates.close()
+        self._threads.stop()
         return super().close()
+
+    def _in_thread(self, call, *words):
+        # (Scrapy chooses the reactor before it is imported)
+        from twisted.internet import reactor
+
+        return deferToThreadPool(reactor, self._threads, call, *words)
 
     def download_request(self, request, spider):
         fetched = self._download(super().download_request, request, spider)
@@ -96,23 +86,22 @@ class GateHandler(HTTP11DownloadHandler):
         return self._download(self._anew.download_request, request, spider)
 
     def _download(self, send, request, spider):
-        session = next(self._turns)
-        begun = deferToThread(self._begin, session, request.url)
-        return begun.addCallback(self._fetch, session, send, request, spider)
+        begun = self._in_thread(self._begin, request.url)
+        return begun.addCallback(self._fetch, send, request, spider)
 
-    def _begin(self, session, url):
+    def _begin(self, url):
         try:
-            return session.begin(self._token, url)
+            return self._gates.begin(self._token, url)
         except Denied as denied:
             raise IgnoreRequest(f"crawlgate: {denied}") from denied
         except Refused as refused:
             kind = OSError if refused.word in NO_ROOM else IgnoreRequest
             raise kind(f"crawlgate: {refused}: {url}") from refused
 
-    def _fetch(self, begun, session, send, request, spider):
+    def _fetch(self, begun, send, request, spider):
         permit, started = begun
         fetched = maybeDeferred(self._send, permit, send, request, spider)
-        return fetched.addBoth(self._end, session, started)
+        return fetched.addBoth(self._end, started)
 
     def _send(self, permit, send, request, spider):
         written = exactly(request, permit.url)
@@ -121,8 +110,8 @@ class GateHandler(HTTP11DownloadHandler):
         written.headers.pop("Host", None)
         return send(written, spider)
 
-    def _end(self, result, session, started):
-        ended = deferToThread(session.end, started)
+    def _end(self, result, started):
+        ended = self._in_thread(self._gates.end, started)
         # (what came of the page stays, whatever the gate says to its end)
         ended.addErrback(lambda fault: LOG.warning("crawlgate: at the end of a fetch: %s", fault.value))
         return ended.addCallback(lambda _: result)

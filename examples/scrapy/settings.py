@@ -2,7 +2,8 @@
 CRAWLGATE_TOKEN = "foobot"
 # a port of this machine, or the path of a socket
 CRAWLGATE_PLACE = "4000"
-# how many sessions it has with the server, which are as many of its --workers
+# how many sessions it has with the server at most, which are as many of its --workers: one is for permits, and in each of the
+# others one robots.txt is fetched at a time
 CRAWLGATE_SESSIONS = 4
 # how long a server that is away is waited for, in seconds
 CRAWLGATE_AWAY = 60

@@ -24,4 +24,5 @@ pub use in_turn::{AHEAD_SECONDS, FetchedAhead, LinesInTurn, RepliesInTurn};
 pub use listener::{Accepts, Listener, accept_from};
 pub use one_by_one::OneByOne;
 pub use seated::{Queue, SILENT_SECONDS, Seated};
+pub use socket_file::bind_socket_file;
 pub use waiting::{PATIENCE_SECONDS, Waiting};

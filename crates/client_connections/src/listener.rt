@@ -1,7 +1,7 @@
 //! Where clients connect.
 
 use crate::accept_fault::{AcceptFault, MAX_ACCEPT_FAULTS};
-use crate::socket_file;
+use crate::socket_file::bind_socket_file;
 use std::alloc::Global;
 use std::fs::Files;
 use std::io::ErrorKind;
@@ -31,14 +31,13 @@ impl Listener {
         Ok(Listener(Endpoint::Port(TcpListener::bind(rt, address)?)))
     }
 
-    /// Listens at a socket file of this path, which only its owner can open (mode 0600). A socket left by a
-    /// dead server is replaced; `AddrInUse` if a server still listens, or if the file is no socket.
+    /// Listens at a socket file, as `bind_socket_file` does.
     pub fn bind_socket<R: Files + Net + RandomSource>(
         rt: &R,
         alloc: Global,
         path: &str,
     ) -> io::Result<Listener> {
-        Ok(Listener(Endpoint::File(socket_file::bind(rt, alloc, path)?)))
+        Ok(Listener(Endpoint::File(bind_socket_file(rt, alloc, path)?)))
     }
 
     /// The port, or `Unsupported` for a socket file.

@@ -1,5 +1,5 @@
 //! A socket file that only its owner can open.
-//! Made by `Listener::bind_socket`.
+//! Made by `Listener::bind_socket`, and for who accepts by means of their own.
 
 use std::alloc::{AllocError, Global};
 use std::fs::{DirBuilder, Files, Permissions};
@@ -16,10 +16,11 @@ const OWNERS_FILE: u32 = 0o600;
 // Only its owner can enter it.
 const OWNERS_FOLDER: u32 = 0o700;
 
-/// Listens at a socket of this path. The socket is made in a folder beside it, which only its owner can
-/// enter, so nobody else can open it before its mode is set; then it is moved. The folder's name is drawn,
-/// so that nobody who may write there can have taken it.
-pub(crate) fn bind<R: Files + Net + RandomSource>(
+/// Listens at a socket file of this path, which only its owner can open (mode 0600). A socket left by a dead
+/// server is replaced; `AddrInUse` if a server still listens, or if the file is no socket. It is made in a
+/// folder beside it, which only its owner can enter, so nobody else can open it before its mode is set; then
+/// it is moved. The folder's name is drawn, so that nobody who may write there can have taken it.
+pub fn bind_socket_file<R: Files + Net + RandomSource>(
     rt: &R,
     alloc: Global,
     path: &str,

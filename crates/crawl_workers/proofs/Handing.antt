@@ -6,7 +6,7 @@ use Rattle.std.specs.List.{AllZip, list_any}
 use Rattle.std.proofs.lemmas.List.{length-map}
 use Rattle.std.proofs.lemmas.List.Elements.{All-cons, All-head, All-nil, All-tail}
 use Rattle.atomic_table.specs.Seated.{TableId}
-use Rattle.desk_pool.specs.Pools.{ReturnEach}
+use Rattle.worker_pool.specs.Pools.{ReturnEach}
 use Rattle.gate_marks.specs.Marks.{Receipt}
 use Rattle.job_line.specs.Covers.{IsNew, SeatView, has_ended, lists_of, parts_of}
 use Rattle.job_line.specs.Limits.{max_workers}

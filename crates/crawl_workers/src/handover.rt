@@ -5,11 +5,11 @@ ghost use Rattle.job_line.specs.Limits.{max_workers};
 ghost use Rattle.crawl_workers.specs.Crews.{HandsOver, nothing_handed};
 
 use crate::crew::{Done, Work};
-use desk_pool::Returned;
 use gate_lock::{Gate, Receipts};
 use job_line::{JobSeat, MAX_WORKERS};
 use std::alloc::{AllocError, Global};
 use std::marker::Model;
+use worker_pool::Returned;
 
 /// The workers' seats, jobs drawn and done, and receipts, in the order of the workers. Room for 16 is
 /// allocated at the start, so that no failed allocation loses what was done.

@@ -1,7 +1,7 @@
 //! A shift: several workers, each on its own thread, do the jobs of a list over one gate.
 //! RFC 9309, sections 2.2 to 2.4, in the profile of docs/POLICY.md.
 ghost use Rattle.std.specs.Prelude.{◌≡◌, ◌≤◌, [], All, IfOk, length, vec_len};
-ghost use Rattle.desk_pool.specs.Pools.{ReturnEach};
+ghost use Rattle.worker_pool.specs.Pools.{ReturnEach};
 ghost use Rattle.job_line.specs.Covers.{IsNew, parts_of};
 ghost use Rattle.job_line.specs.Limits.{IsCrew, max_jobs, max_workers};
 ghost use Rattle.crawl_workers.specs.Crews.{AreAllDone, Ends};
@@ -16,7 +16,6 @@ use crate::places::place_all;
 use crate::report::{Crawled, Report, ShiftFault, Watcher};
 use crate::sites::ShiftSites;
 use crawl_job::Job;
-use desk_pool::{Pool, Returned};
 use fetchers::Fetcher;
 use gate_lock::{Gate, GateLock, Receipts};
 use gate_settlement::settle;
@@ -28,6 +27,7 @@ use std::sync::Wait;
 use std::thread::Threads;
 use std::time;
 use std::time::Duration;
+use worker_pool::{Pool, Returned};
 
 /// Does all jobs over a gate that has made no entry, by 1 to 16 workers without pauses, and settles the
 /// gate: `ShiftCrew::run` without earlier receipts.

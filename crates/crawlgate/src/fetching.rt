@@ -24,6 +24,8 @@ pub(crate) struct Ways<'a> {
     pub(crate) tls_by: Option<SocketAddr>,
     /// How many octets of robots texts are kept together, if that is bounded.
     pub(crate) texts: Option<u64>,
+    /// How many octets of a page are read at most, if not the usual number.
+    pub(crate) page_limit: Option<u64>,
 }
 
 /// A fetcher by these ways, with a contact if given.
@@ -38,6 +40,10 @@ pub(crate) fn new_fetcher(
     let fetcher = TcpFetcher::with_tls(alloc, *host, AGENT, ways.times, ways.reach, ways.tls_by)?;
     let fetcher = fetcher.avoiding(Vec::from_slice(alloc, ways.not_to)?);
     let fetcher = fetcher.keeping(ways.texts.unwrap_or(u64::MAX));
+    let fetcher = match ways.page_limit {
+        Some(most) => fetcher.with_page_limit(most as usize),
+        None => fetcher,
+    };
     match contact {
         Contact::Untold => Ok(fetcher),
         Contact::Text(text) => fetcher.with_contact(text.as_str()),

@@ -66,6 +66,7 @@ fn shift<R: Threads + Wait + time::Clock + Sync>(
         not_to: options.not_to.as_slice(),
         tls_by: options.tls_by,
         texts: None,
+        page_limit: None,
     };
     let Ok(fetcher) = new_fetcher(host, ways, &options.contact) else {
         return Err(Ending::NoMemory);
@@ -97,10 +98,17 @@ fn shift_watched<F: Fetcher + Sync, R: Threads + Wait + time::Clock + Sync>(
     let Ok(status) = StatusLine::new(rt, host.alloc(), sink) else {
         return Err(Ending::NoMemory);
     };
+    let shift = Shift {
+        rt,
+        alloc: host.alloc(),
+        workers: options.workers,
+        delay: Duration::from_secs(options.delay),
+        fetcher,
+        clock: &clock,
+        status: &status,
+    };
     let blanks = Blanks::new();
-    shift_jobs::<Brand, _, _, _, _>(
-        rt, host, options, begun, journal, blanks, &status, fetcher, &clock,
-    )
+    shift_jobs::<Brand, _, _, _, _>(host, options, &shift, begun, journal, blanks)
 }
 
 fn is_watched(host: &HostRuntime) -> bool {
@@ -115,36 +123,24 @@ fn shift_jobs<
     C: Clock + Sync,
     R: Threads + Wait + time::Clock + Sync,
 >(
-    rt: &R,
     host: &HostRuntime,
     options: &ShiftOptions,
+    shift: &Shift<'_, '_, E, F, C, R>,
     begun: JournalStart,
     journal: Option<OpenJournal<'_>>,
     blanks: Blanks,
-    status: &StatusLine<'_, E, R>,
-    fetcher: &F,
-    clock: &C,
 ) -> Result<Ending, Ending>
-    requires workers { IsCrew options.now.workers }
+    requires workers { IsCrew shift.now.workers }
     requires book { IsIdle begun.book }
     requires blanks { blanks ≡ G.ledgers }
 {
     let JournalStart { book, sites } = begun;
     let (gate, receipts) = GateLock::<G>::resume(host.alloc(), book, blanks);
     let past = Past { receipts, sites };
-    let lines = read_jobs(host, fetcher, options.bad_jobs)?;
+    let lines = read_jobs(host, shift.fetcher, options.bad_jobs)?;
     tell_lines(host, lines.bad.as_slice());
-    let shift = Shift {
-        rt,
-        alloc: host.alloc(),
-        workers: options.workers,
-        delay: Duration::from_secs(options.delay),
-        fetcher,
-        clock,
-        status,
-    };
     let jobs = lines.jobs.as_slice();
-    match shift_recorded(host, &shift, jobs, &gate, past, journal, options.told) {
+    match shift_recorded(host, shift, jobs, &gate, past, journal, options.told) {
         // Skipped lines were reported already.
         Ending::Done if !lines.bad.is_empty() => Ok(Ending::BadLine),
         ending => Ok(ending),

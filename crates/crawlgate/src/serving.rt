@@ -169,6 +169,7 @@ fn serve_clients<R: Threads + Wait + time::Clock + Sync>(
         not_to: options.not_to.as_slice(),
         tls_by: options.tls_by,
         texts: options.texts,
+        page_limit: Some(options.page_limit),
     };
     match new_fetcher(host, ways, &options.contact) {
         Ok(fetcher) => {

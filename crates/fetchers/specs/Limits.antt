@@ -1,7 +1,11 @@
--- The limits of a robots.txt, and of all that are kept.
+-- The limits of a page, of a robots.txt, and of all that are kept.
 -- RFC 9309, section 2.5.
 use Rattle.std.specs.Prelude.{ℕ, ◌+◌}
 use Rattle.robots_text.specs.Lines.{text_limit}
+
+-- the octets taken of a page's body where no other limit is set
+abbrev pub page_limit : ℕ
+page_limit = 1_048_576
 
 -- the octets kept of a robots.txt, and one that shows that there are more
 abbrev pub robots_limit : ℕ

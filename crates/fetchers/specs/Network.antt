@@ -12,10 +12,11 @@ use Rattle.std.specs.declared.net.socket_addr.SocketAddr.{SocketAddr}
 use Rattle.http_client.specs.declared.address_block.AddressBlock.{AddressBlock}
 use Rattle.http_client.specs.declared.reach.Reach.{Reach}
 use Rattle.http_client.specs.declared.time_limits.TimeLimits.{TimeLimits}
-use Rattle.fetchers.specs.Limits.{no_bound}
+use Rattle.fetchers.specs.Limits.{no_bound, page_limit}
 
 -- a fetcher: its agent for robots.txt files, the comment after agents of pages, if any, its time limits, its reach, the
--- blocks that it doesn't connect to, the schemes of its pages, and the most octets of robots texts that it keeps
+-- blocks that it doesn't connect to, the schemes of its pages, the most octets of a page's body, and those of the
+-- robots texts that it keeps
 pub record TcpView : Type 0 where
   pub agent : List ℕ
   pub contact : Option (List ℕ)
@@ -23,6 +24,7 @@ pub record TcpView : Type 0 where
   pub reach : Reach
   pub not_to : List AddressBlock
   pub schemes : Schemes
+  pub page_limit : ℕ
   pub texts : ℕ
 
 -- an agent and its comment, if any. RFC 9110, sections 5.6.5 and 10.1.5
@@ -44,7 +46,7 @@ abbrev pub schemes_by : Option SocketAddr → Schemes
 schemes_by None = Http
 schemes_by (Some program) = HttpAndHttps
 
--- a new fetcher: no comment, no block avoided, and no bound of robots texts
+-- a new fetcher: no comment, no block avoided, the usual limit of pages, and no bound of robots texts
 abbrev pub IsFetcherOf : List ℕ → TimeLimits → Reach → Schemes → TcpView → Type 0
 IsFetcherOf agent limits reach schemes fetcher =
     fetcher ≡ record {
@@ -54,6 +56,7 @@ IsFetcherOf agent limits reach schemes fetcher =
       reach = reach;
       not_to = [];
       schemes = schemes;
+      page_limit = page_limit;
       texts = no_bound;
     }
 

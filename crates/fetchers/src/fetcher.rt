@@ -6,7 +6,7 @@ ghost use Rattle.fetchers.specs.Walks.{IsOnWalk};
 
 use gate_lock::{Fetched, Gate, RobotsTurn, Running};
 use http_client::Failure;
-use http_wire::{HttpReply, WireFault};
+use http_wire::{ForwardedFields, HttpReply, WireFault};
 use path_normal::{PageUrl, Schemes};
 use robots_text::Token;
 use stream_waits::Deadline;
@@ -65,13 +65,12 @@ impl RobotsLeave<'_> {
 /// Fetches pages and robots.txt files. A redirect is a reply like others, and is not followed. If the
 /// device of a fetch fails, `failure` gets the reason, if known.
 pub trait Fetcher {
-    ghost use Rattle.std.specs.Prelude.{ℕ, List, Result};
-    ghost use Rattle.http_wire.specs.declared.fault.WireFault.{WireFault};
-    ghost use Rattle.http_wire.specs.declared.response.HttpReply.{HttpReply};
+    ghost use Rattle.fetchers.specs.Giving.{Giving};
     ghost use Rattle.path_normal.specs.declared.schemes.Schemes.{Schemes};
 
-    /// Holds of the limit of a body, a URL, and each result of such a fetch.
-    ghost gives: { Self → ℕ → List ℕ → Result HttpReply WireFault → Type 0 };
+    /// The most octets of a page's body, and what holds of the limit of a body, a URL, and each result of
+    /// such a fetch.
+    ghost gives: { Self → Giving };
 
     /// The schemes of the pages that it fetches.
     ghost follows: { Self → Schemes };
@@ -80,6 +79,10 @@ pub trait Fetcher {
     /// to others are not followed.
     fn schemes(&self) -> Schemes
         ensures { result ≡ follows self.now };
+
+    /// The most octets of a page's body that it gives.
+    fn page_limit(&self) -> usize
+        ensures { result ≡ (gives self.now).page_limit };
 
     /// The shared time limit of one robots.txt walk, from now on; none without a limit or clock.
     fn begin_walk(&self) -> Option<Deadline> {
@@ -98,14 +101,15 @@ pub trait Fetcher {
     /// Tells it how many octets of robots texts are kept now. It counts on from there.
     fn counts_texts(&self, _octets: u64) {}
 
-    /// Fetches a page, with at most `limit` octets of its body.
+    /// Fetches a page with these fields of a client's request, and with at most `limit` octets of its body.
     fn load_page(
         &self,
         leave: PageLeave<'_>,
+        fields: &ForwardedFields<'_>,
         limit: usize,
         failure: &mut Option<Failure>,
     ) -> Result<HttpReply, WireFault>
-        ensures { gives self.now limit (page_of leave.entry) result };
+        ensures { (gives self.now).holds limit (page_of leave.entry) result };
 
     /// Fetches a robots.txt, with at most 512,001 octets of its body: the limit, and one that shows that
     /// there are more.
@@ -115,24 +119,26 @@ pub trait Fetcher {
         time: Option<Deadline>,
         failure: &mut Option<Failure>,
     ) -> Result<HttpReply, WireFault>
-        ensures { gives self.now robots_limit (robots_page_of leave.entry) result };
+        ensures { (gives self.now).holds robots_limit (robots_page_of leave.entry) result };
 
-    /// Makes an allowed fetch under its token, with at most `limit` octets of the page's body. Whatever
-    /// happens, the fetch counts as made.
+    /// Makes an allowed fetch under its token, with these fields of a client's request, and with as many
+    /// octets of the page's body as it gives. Whatever happens, the fetch counts as made.
     final fn fetch_page<G: Gate>(
         &self,
         running: Running<G>,
-        limit: usize,
+        fields: &ForwardedFields<'_>,
         failure: &mut Option<Failure>,
     ) -> (Fetched<G>, Result<HttpReply, WireFault>)
         ensures spent { result.0 ≡ running.pass }
-        ensures given { gives self.now limit running.pass.url result.1 }
+        ensures given { (gives self.now).holds (gives self.now).page_limit
+            running.pass.url result.1 }
     {
         let leave = PageLeave {
             token: running.token(),
             url: running.url(),
         };
-        let reply = self.load_page(leave, limit, failure);
+        let limit = self.page_limit();
+        let reply = self.load_page(leave, fields, limit, failure);
         (running.spend(), reply)
     }
 
@@ -145,8 +151,8 @@ pub trait Fetcher {
         failure: &mut Option<Failure>,
     ) -> Result<HttpReply, WireFault>
         requires { IsOnWalk (follows self.now)
-            (gives self.now robots_limit) _turn.now.authority url.now }
-        ensures { gives self.now robots_limit url.now result }
+            ((gives self.now).holds robots_limit) _turn.now.authority url.now }
+        ensures { (gives self.now).holds robots_limit url.now result }
     {
         self.load_robots(RobotsLeave { url }, time, failure)
     }

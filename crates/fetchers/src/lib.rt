@@ -6,4 +6,4 @@ mod tcp_fetcher;
 mod text_room;
 
 pub use fetcher::{Fetcher, PageLeave, RobotsLeave};
-pub use tcp_fetcher::TcpFetcher;
+pub use tcp_fetcher::{PAGE_LIMIT, TcpFetcher};

@@ -11,9 +11,9 @@ ghost use Rattle.fetchers.specs.Network.{IsFetcherOf, agent_with, schemes_by};
 
 use crate::fetcher::{Fetcher, PageLeave, RobotsLeave};
 use crate::text_room::TextRoom;
-use http_client::{AddressBlock, Failure, Reach, TcpClient, TimeLimits};
-use http_wire::{HttpReply, WireFault};
-use path_normal::{PageUrl, Schemes};
+use http_client::{AddressBlock, Failure, PageRequest, Reach, TcpClient, TimeLimits};
+use http_wire::{ForwardedFields, HttpReply, WireFault};
+use path_normal::Schemes;
 use robots_text::MAX_TEXT;
 use std::alloc::{AllocError, Global};
 use std::marker::Model;
@@ -21,14 +21,17 @@ use std::net::{Net, SocketAddr, TcpStream};
 use std::time;
 use stream_waits::Deadline;
 
+/// The most octets of a page's body where no other limit is set.
+pub const PAGE_LIMIT: usize = 1_048_576;
+
 /// The most octets of a robots.txt: those kept, and one that shows that there are more.
 const ROBOTS_LIMIT: usize = MAX_TEXT + 1;
 
 /// Fetches pages under crawlers' tokens, and robots.txt files under its own agent.
 ///
 /// A clause sees it as that agent (the value of User-Agent), the comment after a crawler's token, its time
-/// limits, its reach, the blocks that it avoids, the schemes of its pages, and the most octets of robots
-/// texts.
+/// limits, its reach, the blocks that it avoids, the schemes of its pages, the most octets of a page's body,
+/// and those of robots texts.
 #[derive(Drop)]
 pub struct TcpFetcher<R: Net<Stream = TcpStream> + time::Clock> {
     client: TcpClient<R>,
@@ -36,6 +39,7 @@ pub struct TcpFetcher<R: Net<Stream = TcpStream> + time::Clock> {
     agent: String,
     contact: Option<String>,
     schemes: Schemes,
+    page_limit: usize,
     texts: TextRoom,
 }
 
@@ -53,6 +57,7 @@ impl<R: Net<Stream = TcpStream> + time::Clock> Model for TcpFetcher<R> {
       reach = fetcher.client.reach;
       not_to = fetcher.client.not_to;
       schemes = fetcher.schemes;
+      page_limit = fetcher.page_limit;
       texts = fetcher.texts;
     } };
 
@@ -109,6 +114,7 @@ impl<R: Net<Stream = TcpStream> + time::Clock> TcpFetcher<R> {
             contact: None,
             client: TcpClient::with_tls(rt, limits, reach, tls_by),
             schemes: schemes_by(tls_by),
+            page_limit: PAGE_LIMIT,
             texts: TextRoom::new(),
         })
     }
@@ -131,6 +137,7 @@ impl<R: Net<Stream = TcpStream> + time::Clock> TcpFetcher<R> {
             agent: _,
             contact: _,
             schemes,
+            page_limit,
             texts,
         } = self;
         Ok(TcpFetcher {
@@ -139,6 +146,7 @@ impl<R: Net<Stream = TcpStream> + time::Clock> TcpFetcher<R> {
             agent: whole,
             contact: Some(contact),
             schemes,
+            page_limit,
             texts,
         })
     }
@@ -156,6 +164,7 @@ impl<R: Net<Stream = TcpStream> + time::Clock> TcpFetcher<R> {
             agent,
             contact,
             schemes,
+            page_limit,
             texts,
         } = self;
         TcpFetcher {
@@ -164,6 +173,33 @@ impl<R: Net<Stream = TcpStream> + time::Clock> TcpFetcher<R> {
             agent,
             contact,
             schemes,
+            page_limit,
+            texts,
+        }
+    }
+
+    /// This fetcher, with at most so many octets of a page's body.
+    pub fn with_page_limit(self, most: usize) -> TcpFetcher<R>
+    where
+        R: Drop,
+        ensures { result ≡ record self { page_limit = most } }
+    {
+        let TcpFetcher {
+            client,
+            alloc,
+            agent,
+            contact,
+            schemes,
+            page_limit: _,
+            texts,
+        } = self;
+        TcpFetcher {
+            client,
+            alloc,
+            agent,
+            contact,
+            schemes,
+            page_limit: most,
             texts,
         }
     }
@@ -180,6 +216,7 @@ impl<R: Net<Stream = TcpStream> + time::Clock> TcpFetcher<R> {
             agent,
             contact,
             schemes,
+            page_limit,
             texts: _,
         } = self;
         TcpFetcher {
@@ -188,6 +225,7 @@ impl<R: Net<Stream = TcpStream> + time::Clock> TcpFetcher<R> {
             agent,
             contact,
             schemes,
+            page_limit,
             texts: TextRoom::of(most),
         }
     }
@@ -195,20 +233,23 @@ impl<R: Net<Stream = TcpStream> + time::Clock> TcpFetcher<R> {
     // Fetches a page under a crawler's agent, with the contact after it.
     fn fetch_under(
         &self,
-        agent: &str,
-        url: &PageUrl,
-        limit: usize,
+        page: &PageRequest<'_, '_>,
         failure: &mut Option<Failure>,
     ) -> Result<HttpReply, WireFault>
-        requires { IsAgent agent.now }
-        ensures { Tells None limit result }
+        requires { IsAgent page.now.agent.now }
+        ensures { Tells None page.now.limit result }
     {
         match &self.contact {
-            None => self.client.fetch(self.alloc, url, agent, limit, failure),
+            None => self.client.fetch_page(self.alloc, page, failure),
             Some(contact) => {
-                let agent = with_comment(self.alloc, agent, contact.as_str())?;
-                self.client
-                    .fetch(self.alloc, url, agent.as_str(), limit, failure)
+                let agent = with_comment(self.alloc, page.agent, contact.as_str())?;
+                let page = PageRequest {
+                    url: page.url,
+                    agent: agent.as_str(),
+                    fields: page.fields,
+                    limit: page.limit,
+                };
+                self.client.fetch_page(self.alloc, &page, failure)
             }
         }
     }
@@ -218,12 +259,16 @@ impl<R: Net<Stream = TcpStream> + time::Clock> TcpFetcher<R> {
 impl<R: Net<Stream = TcpStream> + time::Clock> Fetcher for TcpFetcher<R> {
     ghost use Rattle.fetchers.specs.Network.{GivesAny};
 
-    ghost gives = { λ _. GivesAny };
+    ghost gives = { λ fetcher. record { page_limit = fetcher.page_limit; holds = GivesAny } };
 
     ghost follows = { λ fetcher. fetcher.schemes };
 
     fn schemes(&self) -> Schemes {
         self.schemes
+    }
+
+    fn page_limit(&self) -> usize {
+        self.page_limit
     }
 
     /// All fetches of a walk take no longer than one may.
@@ -248,12 +293,19 @@ impl<R: Net<Stream = TcpStream> + time::Clock> Fetcher for TcpFetcher<R> {
     fn load_page(
         &self,
         leave: PageLeave<'_>,
+        fields: &ForwardedFields<'_>,
         limit: usize,
         failure: &mut Option<Failure>,
     ) -> Result<HttpReply, WireFault>
         ensures { Tells None limit result }
     {
-        let given = self.fetch_under(leave.token().text(), leave.url(), limit, failure);
+        let page = PageRequest {
+            url: leave.url(),
+            agent: leave.token().text(),
+            fields,
+            limit,
+        };
+        let given = self.fetch_under(&page, failure);
         leave.spend();
         given
     }
@@ -270,15 +322,14 @@ impl<R: Net<Stream = TcpStream> + time::Clock> Fetcher for TcpFetcher<R> {
             leave.spend();
             return Err(WireFault::Device);
         };
-        let agent = self.agent.as_str();
-        let given = self.client.fetch_by(
-            self.alloc,
-            leave.url(),
-            agent,
-            ROBOTS_LIMIT,
-            deadline,
-            failure,
-        );
+        let fields = ForwardedFields::none();
+        let page = PageRequest {
+            url: leave.url(),
+            agent: self.agent.as_str(),
+            fields: &fields,
+            limit: ROBOTS_LIMIT,
+        };
+        let given = self.client.fetch_by(self.alloc, &page, deadline, failure);
         leave.spend();
         given
     }

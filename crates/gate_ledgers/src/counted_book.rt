@@ -154,26 +154,26 @@ impl<G: Gate> CountedBook<G> {
         }
     }
 
-    /// The book's start of a permit that stands, with a ruling that was found before, if any: the share of
-    /// the running fetch. The permit's share is spent.
+    /// The book's start of a permit that stands, which is its number and its share as `ask` gave them, with a
+    /// ruling that was found before, if any: the share of the running fetch. The permit's share is spent.
     pub fn start(
         &mut self,
-        number: PermitNo,
+        permit: (PermitNo, One<UnspentLedger<G>>),
         token: &Token,
         url: PageUrl,
         ruling: Option<&Ruling>,
-        one: One<UnspentLedger<G>>,
         moment: u64,
         account: &mut Account<G>,
     ) -> Result<(Started, One<RunningLedger<G>>), Denial>
-        requires stands { stands (history self.old) number token.now url ≡ true }
+        requires stands { stands (history self.old) permit.0 token.now url ≡ true }
         requires ruled { IfSome ruling (λ ruling. IsRuling token.now url ruling.now) }
         requires room { length account.old.marks < account.old.room }
-        ensures reply { Starts self.old number token.now url moment (reply_in result) self.new }
+        ensures reply { Starts self.old permit.0 token.now url moment (reply_in result) self.new }
         ensures marks { account.new ≡ with_marks account.old
-            (marks_of_start self.old number moment (reply_in result)) }
+            (marks_of_start self.old permit.0 moment (reply_in result)) }
         ensures count { entry_count (history self.new) ≡ entry_count (history self.old) + 1 }
     {
+        let (number, one) = permit;
         no_later_entry_closes();
         each_entry_counts();
         let _legal = self.book.history();

@@ -128,7 +128,8 @@ impl<'a, G: Gate> Desk<'a, G> {
         } = permit;
         let account = &mut self.account;
         let _room = account.room();
-        let result = counted.start(number, &token, url, ruling, one, moment, account);
+        let share = (number, one);
+        let result = counted.start(share, &token, url, ruling, moment, account);
         self.seen = counted.entry_count();
         self.permits -= 1;
         let (started, one) = match result {

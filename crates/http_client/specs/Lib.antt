@@ -6,5 +6,6 @@ pub mod Cut
 pub mod Exchange
 pub mod Reach
 pub mod HostPort
+pub mod Requests
 pub mod TimeLimits
 pub mod TlsHeader

@@ -8,9 +8,11 @@ ghost use Rattle.http_wire.specs.Request.{request};
 ghost use Rattle.http_wire.specs.declared.fault.WireFault.TheVariants.{Device};
 ghost use Rattle.http_client.specs.Agent.{IsAgent};
 ghost use Rattle.http_client.specs.Exchange.{Exchanges};
+ghost use Rattle.http_client.specs.Requests.{octets_of};
 
+use crate::page_request::PageRequest;
 use counted_io::{Sink, Source, write_all};
-use http_wire::{HttpReply, WireFault, read_response, write_get};
+use http_wire::{ForwardedFields, HttpReply, WireFault, read_response, write_get_with};
 use path_normal::PageUrl;
 use std::alloc::Global;
 
@@ -32,45 +34,48 @@ pub fn exchange<S: Source, W: Sink>(
         (W.failures writer.old) (W.failures writer.new) (S.left reader.old)
         (S.failures reader.old) (S.failures reader.new) result }
 {
-    exchange_with_header(alloc, reader, writer, &[], url, agent, limit)
+    let fields = ForwardedFields::none();
+    let page = PageRequest {
+        url,
+        agent,
+        fields: &fields,
+        limit,
+    };
+    exchange_with_header(alloc, reader, writer, &[], &page)
 }
 
-/// `exchange` with a header before the request, for a program between both ends.
+/// `exchange` of such a request, with a header before it, for a program between both ends.
 pub fn exchange_with_header<S: Source, W: Sink>(
     alloc: Global,
     reader: &mut S,
     writer: &mut W,
     header: &[u8],
-    url: &PageUrl,
-    agent: &str,
-    limit: usize,
+    page: &PageRequest<'_, '_>,
 ) -> Result<HttpReply, WireFault>
-    requires { IsAgent agent.now }
-    ensures { Exchanges
-        (header.now ++ request (target_of url.now) (host_of url.now) agent.now) limit
+    requires { IsAgent page.now.agent.now }
+    ensures { Exchanges (header.now ++ octets_of page.now) page.now.limit
         (W.written writer.old) (W.written writer.new)
         (W.failures writer.old) (W.failures writer.new) (S.left reader.old)
         (S.failures reader.old) (S.failures reader.new) result }
 {
-    write_behind(writer, header, url, agent)?;
-    read_response(alloc, reader, limit)
+    write_behind(writer, header, page)?;
+    read_response(alloc, reader, page.limit)
 }
 
 // Writes the header, and then the request.
 fn write_behind<W: Sink>(
     writer: &mut W,
     header: &[u8],
-    url: &PageUrl,
-    agent: &str,
+    page: &PageRequest<'_, '_>,
 ) -> Result<(), WireFault>
-    requires { IsAgent agent.now }
+    requires { IsAgent page.now.agent.now }
     ensures ok { OnOk result (Appends (W.written writer.old) (W.written writer.new)
-        (header.now ++ request (target_of url.now) (host_of url.now) agent.now)) }
+        (header.now ++ octets_of page.now)) }
     ensures err { OnErr result (AppendsPrefix (W.written writer.old) (W.written writer.new)
-        (header.now ++ request (target_of url.now) (host_of url.now) agent.now)) }
+        (header.now ++ octets_of page.now)) }
     ensures fault { OnErr result (result ≡ Err Device) }
     ensures count { W.failures writer.new ≡ failures_after (W.failures writer.old) result }
 {
     write_all(writer, header)?;
-    write_get(writer, url, agent)
+    write_get_with(writer, page.url, page.agent, page.fields)
 }

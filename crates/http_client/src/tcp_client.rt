@@ -10,15 +10,16 @@ ghost use Rattle.http_client.specs.declared.reach.Reach.TheVariants.{Anywhere};
 use crate::address_block::AddressBlock;
 use crate::failure::{Failure, fault_for, unheard};
 use crate::heard::{Heard, Nothing};
-use crate::http_exchange::exchange;
+use crate::http_exchange::exchange_with_header;
 use crate::network::{Network, Way};
+use crate::page_request::PageRequest;
 use crate::reach::Reach;
 use crate::time_limits::TimeLimits;
 use crate::timed_stream::TimedStream;
 use crate::tls_exchange::exchange_through;
 use crate::tls_header::{TlsHeaderFault, tls_header_of};
 use counted_io::Counted;
-use http_wire::{HttpReply, WireFault};
+use http_wire::{ForwardedFields, HttpReply, WireFault};
 use path_normal::PageUrl;
 use std::alloc::Global;
 use std::marker::Model;
@@ -37,12 +38,10 @@ pub struct TcpClient<R: Net<Stream = TcpStream> + time::Clock> {
     stopped: AtomicBool,
 }
 
-/// A request for a page: its agent, its limit of octets, and its time.
+/// A request for a page, and its time.
 #[derive(Clone, Copy)]
 struct Asked<'a> {
-    url: &'a PageUrl,
-    agent: &'a str,
-    limit: usize,
+    page: &'a PageRequest<'a, 'a>,
     deadline: Deadline,
 }
 
@@ -150,32 +149,45 @@ impl<R: Net<Stream = TcpStream> + time::Clock> TcpClient<R> {
         requires { IsAgent agent.now }
         ensures { Tells None limit result }
     {
+        let fields = ForwardedFields::none();
+        let page = PageRequest {
+            url,
+            agent,
+            fields: &fields,
+            limit,
+        };
+        self.fetch_page(alloc, &page, failure)
+    }
+
+    /// `fetch` of such a request.
+    pub fn fetch_page(
+        &self,
+        alloc: Global,
+        page: &PageRequest<'_, '_>,
+        failure: &mut Option<Failure>,
+    ) -> Result<HttpReply, WireFault>
+        requires { IsAgent page.now.agent.now }
+        ensures { Tells None page.now.limit result }
+    {
         match self.begin() {
-            Ok(deadline) => self.fetch_by(alloc, url, agent, limit, deadline, failure),
+            Ok(deadline) => self.fetch_by(alloc, page, deadline, failure),
             Err(_) => Err(WireFault::Device),
         }
     }
 
-    /// Like `fetch`, within the remaining time.
+    /// Like `fetch_page`, within the remaining time.
     pub fn fetch_by(
         &self,
         alloc: Global,
-        url: &PageUrl,
-        agent: &str,
-        limit: usize,
+        page: &PageRequest<'_, '_>,
         deadline: Deadline,
         failure: &mut Option<Failure>,
     ) -> Result<HttpReply, WireFault>
-        requires { IsAgent agent.now }
-        ensures { Tells None limit result }
+        requires { IsAgent page.now.agent.now }
+        ensures { Tells None page.now.limit result }
     {
-        let asked = Asked {
-            url,
-            agent,
-            limit,
-            deadline,
-        };
-        if url.is_https() {
+        let asked = Asked { page, deadline };
+        if page.url.is_https() {
             self.fetch_by_tls(alloc, &asked, failure)
         } else {
             self.fetch_straight(alloc, &asked, failure)
@@ -189,24 +201,17 @@ impl<R: Net<Stream = TcpStream> + time::Clock> TcpClient<R> {
         asked: &Asked<'_>,
         failure: &mut Option<Failure>,
     ) -> Result<HttpReply, WireFault>
-        requires plain { is_https asked.now.url.now ≡ false }
-        requires agent { IsAgent asked.now.agent.now }
-        ensures { Tells None asked.now.limit result }
+        requires plain { is_https asked.now.page.now.url.now ≡ false }
+        requires agent { IsAgent asked.now.page.now.agent.now }
+        ensures { Tells None asked.now.page.now.limit result }
     {
-        let stream = match self.connect(asked.url, &asked.deadline) {
+        let stream = match self.connect(asked.page.url, &asked.deadline) {
             Ok(stream) => stream,
             Err(why) => return Err(fault_for(why, failure)),
         };
         let mut reader = Counted::new(self.timed(&stream, asked.deadline));
         let mut writer = Counted::new(self.timed(&stream, asked.deadline));
-        let given = exchange(
-            alloc,
-            &mut reader,
-            &mut writer,
-            asked.url,
-            asked.agent,
-            asked.limit,
-        );
+        let given = exchange_with_header(alloc, &mut reader, &mut writer, &[], asked.page);
         *failure = writer.into_inner().failure.or(reader.into_inner().failure);
         given
     }
@@ -218,14 +223,14 @@ impl<R: Net<Stream = TcpStream> + time::Clock> TcpClient<R> {
         asked: &Asked<'_>,
         failure: &mut Option<Failure>,
     ) -> Result<HttpReply, WireFault>
-        requires https { is_https asked.now.url.now ≡ true }
-        requires agent { IsAgent asked.now.agent.now }
-        ensures { Tells None asked.now.limit result }
+        requires https { is_https asked.now.page.now.url.now ≡ true }
+        requires agent { IsAgent asked.now.page.now.agent.now }
+        ensures { Tells None asked.now.page.now.limit result }
     {
         if !self.network.has_tls() {
             return Err(fault_for(Failure::NoTlsProgram, failure));
         }
-        let Ok(addresses) = self.network.addresses_of(asked.url) else {
+        let Ok(addresses) = self.network.addresses_of(asked.page.url) else {
             return Err(fault_for(Failure::NoName, failure));
         };
         let mut last = fault_for(Failure::NoName, failure);
@@ -252,11 +257,11 @@ impl<R: Net<Stream = TcpStream> + time::Clock> TcpClient<R> {
         failure: &mut Option<Failure>,
     ) -> Result<HttpReply, WireFault>
         requires way { MayReach self.now.reach self.now.not_to (socket_ip way.now.address) }
-        requires agent { IsAgent asked.now.agent.now }
-        ensures { Tells None asked.now.limit result }
+        requires agent { IsAgent asked.now.page.now.agent.now }
+        ensures { Tells None asked.now.page.now.limit result }
     {
         *failure = None;
-        let header = match tls_header_of(alloc, asked.url, way.ip()) {
+        let header = match tls_header_of(alloc, asked.page.url, way.ip()) {
             Ok(header) => header,
             Err(TlsHeaderFault::NoMemory) => return Err(WireFault::NoMemory),
             Err(TlsHeaderFault::LongName) => return Err(fault_for(Failure::NoName, failure)),
@@ -271,9 +276,7 @@ impl<R: Net<Stream = TcpStream> + time::Clock> TcpClient<R> {
             self.timed(&stream, asked.deadline),
             &mut writer,
             header.as_slice(),
-            asked.url,
-            asked.agent,
-            asked.limit,
+            asked.page,
         );
         let told = writer.into_inner().failure.or(heard.stream.failure);
         *failure = if heard.any {

@@ -7,9 +7,9 @@ ghost use Rattle.http_client.specs.Cut.{IsWholeBefore, unless_ended};
 
 use crate::heard::{Heard, Unseen};
 use crate::http_exchange::exchange_with_header;
+use crate::page_request::PageRequest;
 use counted_io::{Counted, Sink};
 use http_wire::{HttpReply, WireFault};
-use path_normal::PageUrl;
 use std::alloc::Global;
 use std::io::Read;
 
@@ -22,16 +22,14 @@ pub(crate) fn exchange_through<S: Read, W: Sink, U: Unseen>(
     stream: S,
     writer: &mut W,
     header: &[u8],
-    url: &PageUrl,
-    agent: &str,
-    limit: usize,
+    page: &PageRequest<'_, '_>,
 ) -> (Result<HttpReply, WireFault>, Heard<S, U>)
-    requires { IsAgent agent.now }
-    ensures tells { Tells None limit result.0 }
-    ensures whole { IsWholeBefore U.octets (S.remaining stream) limit result.0 }
+    requires { IsAgent page.now.agent.now }
+    ensures tells { Tells None page.now.limit result.0 }
+    ensures whole { IsWholeBefore U.octets (S.remaining stream) page.now.limit result.0 }
 {
     let mut reader = Counted::new(Heard::new(stream));
-    let given = exchange_with_header(alloc, &mut reader, writer, header, url, agent, limit);
+    let given = exchange_with_header(alloc, &mut reader, writer, header, page);
     let heard: Heard<S, U> = reader.into_inner();
     (unless_ended(given, heard.ended), heard)
 }

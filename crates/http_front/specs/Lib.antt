@@ -1,5 +1,6 @@
 -- Definitions for the contracts of the HTTP front.
 pub mod Fields
+pub mod Forwarding
 pub mod Credentials
 pub mod Hosts
 pub mod Targets

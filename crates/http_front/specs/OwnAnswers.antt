@@ -14,6 +14,8 @@ use Rattle.http_front.specs.declared.asked.TargetForm.{TargetForm}
 use Rattle.http_front.specs.declared.asked.TargetForm.TheVariants.{Absolute, Path}
 use Rattle.http_front.specs.declared.asked.Misasked.{Misasked}
 use Rattle.http_front.specs.declared.asked.Misasked.TheVariants as misasked
+use Rattle.http_front.specs.declared.told.Later.{Later}
+use Rattle.http_front.specs.declared.told.Later.TheVariants as laters
 use Rattle.http_front.specs.declared.told.OwnAnswer.{OwnAnswer}
 use Rattle.http_front.specs.declared.told.OwnAnswer.TheVariants as owns
 
@@ -35,6 +37,7 @@ own_status (owns.Misasked why) = misasked_status why
 own_status owns.CutShort = 502
 own_status (owns.Denied denial) = 403
 own_status (owns.Refused refusal) = 503
+own_status (owns.Later why) = 503
 own_status (owns.Failed fault failure) = fault_status fault failure
 own_status owns.Unfetched = 500
 
@@ -52,6 +55,7 @@ own_error (owns.Misasked why) = misasked_error why
 own_error owns.CutShort = codes "http_response_body_size"
 own_error (owns.Denied denial) = codes "http_request_denied"
 own_error (owns.Refused refusal) = codes "proxy_internal_response"
+own_error (owns.Later why) = codes "proxy_internal_response"
 own_error (owns.Failed fault failure) = fault_error fault failure
 own_error owns.Unfetched = codes "proxy_internal_error"
 
@@ -71,12 +75,18 @@ misasked_words (misasked.Url fault) = url_fault_words fault
 misasked_words (misasked.Elsewhere form url) = codes "authority"
 misasked_words misasked.NoMemory = refusal_word refusals.NoMemory
 
+-- the words of a request that was not begun
+abbrev pub later_words : Later → List ℕ
+later_words laters.InFlight = codes "inflight"
+later_words laters.Door = codes "site busy"
+
 -- the words of the gate's own answer
 abbrev pub own_details : OwnAnswer → List ℕ
 own_details (owns.Misasked why) = misasked_words why
 own_details owns.CutShort = codes "cut"
 own_details (owns.Denied denial) = denial_details denial
 own_details (owns.Refused refusal) = refusal_word refusal
+own_details (owns.Later why) = later_words why
 own_details (owns.Failed fault failure) = wire_fault_text fault
 own_details owns.Unfetched = codes "no fetch"
 
@@ -140,6 +150,7 @@ refusal_fields _ = again (codes "1")
 abbrev pub own_fields : OwnAnswer → List Header
 own_fields (owns.Misasked why) = misasked_fields why
 own_fields (owns.Refused refusal) = refusal_fields refusal
+own_fields (owns.Later why) = again (codes "1")
 own_fields (owns.Failed faults.NoMemory failure) = again (codes "1")
 own_fields _ = []
 

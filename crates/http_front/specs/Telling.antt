@@ -13,7 +13,8 @@ use Rattle.gate_history.specs.declared.outcome.Reason.{Reason}
 use Rattle.crawl_job.specs.declared.hop.Hop.{Hop}
 use Rattle.crawl_job.specs.declared.hop.Hop.TheVariants as hops
 use Rattle.keepers.specs.declared.counts.Counts.{Counts}
-use Rattle.page_worker.specs.declared.visiting.PageVisit.{PageVisit}
+use Rattle.page_worker.specs.declared.visiting.Visited.{Visited}
+use Rattle.page_worker.specs.declared.visiting.Visited.TheVariants as visiteds
 use Rattle.http_front.specs.Causes.{reason_details}
 use Rattle.http_front.specs.OwnAnswers.{metrics_type, own_body, own_details, own_error, own_fields, own_status}
 use Rattle.http_front.specs.Passing.{passed_body, passed_fields, sent_field, site_status}
@@ -21,6 +22,7 @@ use Rattle.http_front.specs.ProxyStatus.{own_value, passed_value}
 use Rattle.http_front.specs.declared.asked.PageWish.{PageWish}
 use Rattle.http_front.specs.declared.asked.CutRule.{CutRule}
 use Rattle.http_front.specs.declared.asked.CutRule.TheVariants as cuts
+use Rattle.http_front.specs.declared.told.Later.TheVariants as laters
 use Rattle.http_front.specs.declared.told.OwnAnswer.{OwnAnswer}
 use Rattle.http_front.specs.declared.told.OwnAnswer.TheVariants as owns
 use Rattle.http_front.specs.declared.told.Told.{Told}
@@ -48,10 +50,22 @@ told_hop asked (hops.Fault number fault) reply failure = tolds.Own (owns.Failed 
 told_hop asked (hops.Err refusal) reply failure = tolds.Own (owns.Refused refusal)
 told_hop asked (hops.Stop stop) reply failure = tolds.Own owns.Unfetched
 
--- what is told of a visit, if it was made
-abbrev pub told_visit : PageWish → Option PageVisit → Told
-told_visit asked (Some visit) = told_hop asked visit.hop visit.reply visit.failure
+-- what is told of a visit, if the keeper makes any
+abbrev pub told_visit : PageWish → Option Visited → Told
+told_visit asked (Some (visiteds.Done visit)) = told_hop asked visit.hop visit.reply visit.failure
+told_visit asked (Some visiteds.InFlight) = tolds.Own (owns.Later laters.InFlight)
 told_visit asked None = tolds.Own owns.Unfetched
+
+-- the response of a visit, if it gave one
+abbrev pub reply_in : Option Visited → Option HttpReply
+reply_in (Some (visiteds.Done visit)) = visit.reply
+reply_in (Some visiteds.InFlight) = None
+reply_in None = None
+
+-- the request was not begun
+abbrev pub is_later : Told → Bool
+is_later (tolds.Own (owns.Later why)) = true
+is_later _ = false
 
 -- ---- the response
 

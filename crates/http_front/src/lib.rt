@@ -5,7 +5,10 @@
 mod asked;
 mod causes;
 mod credentials;
+mod deferring;
+mod door;
 mod fields;
+mod forwarding;
 mod front;
 mod hosts;
 mod metrics;
@@ -18,7 +21,9 @@ mod telling;
 mod told;
 
 pub use asked::{CutRule, Misasked, PageWish, TargetForm, Wish};
+pub use door::SiteDoor;
+pub use forwarding::Forwarding;
 pub use front::{Front, front_config};
 pub use metrics::Metrics;
 pub use reading::read_request;
-pub use told::{OwnAnswer, Told};
+pub use told::{Later, OwnAnswer, Told};

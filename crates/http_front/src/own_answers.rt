@@ -4,12 +4,12 @@ ghost use Rattle.std.specs.Prelude.{◌≡◌, [], ◌∷◌, ◌++◌, codes, I
 ghost use Rattle.http_header.specs.FieldValue.{is_visible_text, plain_value};
 ghost use Rattle.http_wire.specs.Messages.{wire_fault_text};
 ghost use Rattle.http_server.specs.Response.{fields_of};
-ghost use Rattle.http_front.specs.OwnAnswers.{absolute_line, again, allow_field, challenge, challenge_name, challenge_words, connect_line, elsewhere, method_text, metrics_words, misasked_error, misasked_fields, misasked_status, misasked_words, own_body, own_details, own_error, own_fields, own_status, path_line, text_type, text_words};
+ghost use Rattle.http_front.specs.OwnAnswers.{absolute_line, again, allow_field, challenge, challenge_name, challenge_words, connect_line, elsewhere, later_words, method_text, metrics_words, misasked_error, misasked_fields, misasked_status, misasked_words, own_body, own_details, own_error, own_fields, own_status, path_line, text_type, text_words};
 
 use crate::asked::{Misasked, TargetForm};
 use crate::causes::{denial_details, fault_error, fault_status};
 use crate::passing::add_field;
-use crate::told::OwnAnswer;
+use crate::told::{Later, OwnAnswer};
 use bytes::Bytes;
 use command_lines::refusal_word;
 use crawl_job::Refusal;
@@ -29,6 +29,7 @@ pub(crate) fn own_status(own: &OwnAnswer) -> StatusCode
         OwnAnswer::CutShort => StatusCode::BAD_GATEWAY,
         OwnAnswer::Denied(_) => StatusCode::FORBIDDEN,
         OwnAnswer::Refused(_) => StatusCode::SERVICE_UNAVAILABLE,
+        OwnAnswer::Later(_) => StatusCode::SERVICE_UNAVAILABLE,
         OwnAnswer::Failed(fault, failure) => fault_status(*fault, *failure),
         OwnAnswer::Unfetched => StatusCode::INTERNAL_SERVER_ERROR,
     }
@@ -57,6 +58,7 @@ pub(crate) fn own_error(own: &OwnAnswer) -> &'static str
         OwnAnswer::CutShort => "http_response_body_size",
         OwnAnswer::Denied(_) => "http_request_denied",
         OwnAnswer::Refused(_) => "proxy_internal_response",
+        OwnAnswer::Later(_) => "proxy_internal_response",
         OwnAnswer::Failed(fault, failure) => fault_error(*fault, *failure),
         OwnAnswer::Unfetched => "proxy_internal_error",
     }
@@ -82,6 +84,7 @@ pub(crate) fn own_details(alloc: Global, own: &OwnAnswer) -> Result<Vec<u8>, All
         OwnAnswer::Misasked(why) => misasked_words(why),
         OwnAnswer::CutShort => "cut",
         OwnAnswer::Refused(refusal) => refusal_word(*refusal),
+        OwnAnswer::Later(why) => later_words(*why),
         OwnAnswer::Unfetched => "no fetch",
     };
     Vec::from_slice(alloc, words.as_bytes())
@@ -111,6 +114,15 @@ fn misasked_words(why: &Misasked) -> &'static str
     }
 }
 
+fn later_words(why: Later) -> &'static str
+    ensures { result.now ≡ later_words why }
+{
+    match why {
+        Later::InFlight => "inflight",
+        Later::Door => "site busy",
+    }
+}
+
 /// Adds the fields beside Proxy-Status.
 pub(crate) fn add_own_fields(
     alloc: Global,
@@ -126,6 +138,7 @@ pub(crate) fn add_own_fields(
         OwnAnswer::Misasked(why) => add_misasked_fields(alloc, why, response),
         OwnAnswer::Refused(Refusal::LogFull) => add_again("60", response),
         OwnAnswer::Refused(_) => add_again("1", response),
+        OwnAnswer::Later(_) => add_again("1", response),
         OwnAnswer::Failed(WireFault::NoMemory, _) => add_again("1", response),
         _ => Ok(()),
     }

@@ -1,6 +1,6 @@
 //! The response to what a request is told.
 //! RFC 9110, section 15; RFC 9209, section 2.
-ghost use Rattle.std.specs.Prelude.{◌≡◌, ◌++◌, OnOk};
+ghost use Rattle.std.specs.Prelude.{◌≡◌, ◌++◌, ◌⊎◌, OnOk};
 ghost use Rattle.http_server.specs.Response.{IsBlank, fields_of};
 ghost use Rattle.http_front.specs.Telling.{IsCounted, IsOwn, TellsPage, IsTold, RanOut, status_field};
 
@@ -23,8 +23,25 @@ use path_normal::Schemes;
 use permit_book::PermitNo;
 use std::alloc::{AllocError, Global};
 
-/// Fills the response. After an error it is to be cleared.
-pub(crate) fn tell<M: Metrics>(
+/// Fills the response, or says in it that memory ran out: how many octets its body has.
+pub(crate) fn answer<M: Metrics>(
+    alloc: Global,
+    schemes: Schemes,
+    metrics: &M,
+    told: Told,
+    response: &mut Response,
+) -> u64
+    requires { IsBlank response.old }
+    ensures { IsTold (M.tells metrics.now) schemes told response.new ⊎ RanOut response.new }
+{
+    if tell(alloc, schemes, metrics, told, response).is_err() {
+        give_up(response);
+    }
+    response.body.len() as u64
+}
+
+// Fills the response. After an error it is to be cleared.
+fn tell<M: Metrics>(
     alloc: Global,
     schemes: Schemes,
     metrics: &M,
@@ -43,8 +60,8 @@ pub(crate) fn tell<M: Metrics>(
     }
 }
 
-/// Says that memory ran out, if there is any for that.
-pub(crate) fn give_up(response: &mut Response)
+// Says that memory ran out, if there is any for that.
+fn give_up(response: &mut Response)
     ensures { RanOut response.new }
 {
     response.clear();

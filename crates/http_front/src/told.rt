@@ -1,7 +1,8 @@
 //! What a request is told.
 //! RFC 9110, section 15.
 ghost use Rattle.std.specs.Prelude.{◌≡◌};
-ghost use Rattle.http_front.specs.Telling.{is_pass, told_hop, told_page, told_visit};
+ghost use Rattle.std.specs.Option.{option_copied};
+ghost use Rattle.http_front.specs.Telling.{is_later, is_pass, reply_in, told_hop, told_page, told_visit};
 
 use crate::asked::{CutRule, Misasked, PageWish};
 use crawl_job::{Hop, Refusal};
@@ -10,7 +11,7 @@ use gate_history::Reason;
 use http_client::Failure;
 use http_wire::{HttpReply, WireFault};
 use keepers::Counts;
-use page_worker::PageVisit;
+use page_worker::{PageVisit, Visited};
 use permit_book::PermitNo;
 
 /// What a request is told.
@@ -22,6 +23,27 @@ pub enum Told {
     Metrics(Counts),
     /// The gate's own answer.
     Own(OwnAnswer),
+}
+
+impl Told {
+    /// Whether the request was not begun, and may be answered better at once when its time has come.
+    pub(crate) fn is_later(&self) -> bool
+        ensures { result ≡ is_later self.now }
+    {
+        match self {
+            Told::Own(OwnAnswer::Later(_)) => true,
+            _ => false,
+        }
+    }
+}
+
+/// Why a request was not begun. It left nothing, and passes by itself.
+#[derive(Clone, Copy, Debug, PartialEq, Eq)]
+pub enum Later {
+    /// Another desk is fetching the robots.txt of the page's authority.
+    InFlight,
+    /// The door lets no visit to the site in now.
+    Door,
 }
 
 /// What the gate answers itself.
@@ -37,23 +59,37 @@ pub enum OwnAnswer {
     Refused(Refusal),
     /// The fetch failed.
     Failed(WireFault, Option<Failure>),
+    /// The request was not begun.
+    Later(Later),
     /// There was no fetch, and the gate does not say why: its keeper fetches nothing.
     Unfetched,
 }
 
 /// What is told of a visit, if the keeper makes any.
-pub(crate) fn told_visit(asked: PageWish, visit: Option<PageVisit>) -> Told
+pub(crate) fn told_visit(asked: PageWish, visit: Option<Visited>) -> Told
     ensures { result ≡ told_visit asked visit }
 {
     match visit {
-        Some(
-            PageVisit {
+        Some(Visited::Done(visit)) => {
+            let PageVisit {
                 hop,
                 reply,
                 failure,
-            },
-        ) => told_hop(asked, hop, reply, failure),
+            } = visit;
+            told_hop(asked, hop, reply, failure)
+        }
+        Some(Visited::InFlight) => Told::Own(OwnAnswer::Later(Later::InFlight)),
         None => Told::Own(OwnAnswer::Unfetched),
+    }
+}
+
+/// The response of a visit, if it gave one.
+pub(crate) fn reply_in(visit: &Option<Visited>) -> Option<&HttpReply>
+    ensures { option_copied result ≡ reply_in visit.now }
+{
+    match visit {
+        Some(Visited::Done(visit)) => visit.reply.as_ref(),
+        Some(Visited::InFlight) | None => None,
     }
 }
 

@@ -15,7 +15,7 @@ use Rattle.http_wire.specs.declared.fault.WireFault.{WireFault}
 use Rattle.http_wire.specs.declared.fault.WireFault.TheVariants.{EarlyEnd, BadHead, HeadTooLong, TooManyInterim, BadLength, BadChunk, Coding, Device, NoMemory, TooMuch}
 use Rattle.http_wire.specs.declared.framing.Framing.{Framing}
 use Rattle.http_wire.specs.declared.head.FinalHead.{FinalHead}
-use Rattle.http_wire.specs.Limits.{max_raw}
+use Rattle.http_wire.specs.Limits.{raw_limit}
 use Rattle.http_wire.specs.declared.response.HttpReply.{HttpReply}
 use Rattle.http_wire.proofs.HeadFacts.{final_append}
 use Rattle.http_wire.proofs.SourceReads.{whole_before}
@@ -74,7 +74,7 @@ in_body seen input more found is parts fact = record {
 }
 
 pub fault_told : (left left' : Option (List ℕ)) (seen : List ℕ) (found : FinalHead) (limit : ℕ) (fault : WireFault)
-    → Grows left left' [] seen → IsFound seen found → length seen ≤ max_raw
+    → Grows left left' [] seen → IsFound seen found → length seen ≤ raw_limit limit
     → ReadsBody found.framing limit found.end left' seen (Err fault) → Tells left limit (Err fault)
 fault_told left left' seen found limit fault grows is few reads = record {
   input = reads.input;
@@ -87,21 +87,24 @@ fault_told left left' seen found limit fault grows is few reads = record {
   more : List ℕ
   more = reads.whole.more
 
-  sum : max_raw ≡ length seen + (max_raw - length seen)
+  most : ℕ
+  most = raw_limit limit
+
+  sum : most ≡ length seen + (most - length seen)
   sum = omega (arith, few)
 
-  prefix : take max_raw input ≡ seen ++ take (max_raw - length seen) more
+  prefix : take most input ≡ seen ++ take (most - length seen) more
   prefix =
-      ap (take max_raw) reads.whole.parts
+      ap (take most) reads.whole.parts
       ∙ ap (λ n. take n (seen ++ more)) sum
-      ∙ take-append-add seen more (max_raw - length seen)
+      ∙ take-append-add seen more (most - length seen)
 
   by_fault : (fault : WireFault) → HasNoBody fault found.framing limit found.end input → Cause fault input limit
   by_fault EarlyEnd ends = inr (in_body seen input more found is reads.whole.parts ends)
   by_fault BadChunk bad = in_body seen input more found is reads.whole.parts bad
   by_fault TooMuch on = record {
     more = on.more;
-    prefix = in_body seen (take max_raw input) (take (max_raw - length seen) more) found is prefix on.prefix;
+    prefix = in_body seen (take most input) (take (most - length seen) more) found is prefix on.prefix;
   }
   by_fault Device _ = tt
   by_fault NoMemory _ = tt

@@ -11,7 +11,7 @@ use Rattle.http_wire.specs.declared.fault.WireFault.{WireFault}
 use Rattle.http_wire.specs.declared.fault.WireFault.TheVariants.{BadChunk}
 use Rattle.http_wire.specs.declared.framing.Framing.{Framing}
 use Rattle.http_wire.specs.declared.framing.Framing.TheVariants.{Counted, Chunked, ToEnd}
-use Rattle.http_wire.specs.Limits.{max_raw}
+use Rattle.http_wire.specs.Limits.{raw_limit}
 use Rattle.http_wire.specs.Bodies.{Gives, GivesCounted, IsBodyPrefix, IsBadBody}
 use Rattle.http_wire.specs.Chunks.{IsBadChunked}
 use Rattle.http_wire.specs.Reading.{HasBody, GoesOn, HasNoBody}
@@ -76,7 +76,7 @@ drop_more : (start : ℕ) (bytes more : List ℕ) → start ≤ length bytes →
 drop_more start bytes more within = sym (drop-append-le start bytes more within)
 
 -- a body that is certain whatever follows stays with more bytes after it
-pub given_past : (framing : Framing) (limit start : ℕ) (bytes more : List ℕ) (body : Body) → start ≤ length bytes → length bytes ≤ max_raw
+pub given_past : (framing : Framing) (limit start : ℕ) (bytes more : List ℕ) (body : Body) → start ≤ length bytes → length bytes ≤ raw_limit limit
     → GivesBody framing limit (drop start bytes) body → HasBody framing limit start (bytes ++ more) body
 given_past framing limit start bytes more body within few given = record {
   rest = given.rest ++ more;
@@ -92,7 +92,7 @@ refused_past framing limit start bytes more fault within refuses =
       | inr none ↦ subst (λ f. HasNoBody f framing limit start (bytes ++ more)) (sym none) tt
     ]
 
-pub given_end : (framing : Framing) (limit start : ℕ) (bytes : List ℕ) (body : Body) → start ≤ length bytes → length bytes ≤ max_raw
+pub given_end : (framing : Framing) (limit start : ℕ) (bytes : List ℕ) (body : Body) → start ≤ length bytes → length bytes ≤ raw_limit limit
     → GivesBody framing limit (drop start bytes) body → HasBody framing limit start bytes body
 given_end framing limit start bytes body within few given =
     subst (λ input. HasBody framing limit start input body) (append-nil bytes) (given_past framing limit start bytes [] body within few given)
@@ -112,20 +112,20 @@ full_prefix (Counted size) limit text full = absurd full
 full_prefix Chunked limit text full = inr full
 full_prefix ToEnd limit text full = absurd full
 
-goes_on : (framing : Framing) (limit start : ℕ) (bytes more : List ℕ) → length bytes ≡ max_raw → 0 < length more
+goes_on : (framing : Framing) (limit start : ℕ) (bytes more : List ℕ) → length bytes ≡ raw_limit limit → 0 < length more
     → IsBodyPrefix framing limit (drop start bytes) → GoesOn framing limit start (bytes ++ more)
 goes_on framing limit start bytes more full some prefix =
-    let whole : bytes ≡ take max_raw (bytes ++ more) = sym (take-append-le max_raw bytes more (omega arith) ∙ take_all max_raw bytes (omega arith)) in
+    let whole : bytes ≡ take (raw_limit limit) (bytes ++ more) = sym (take-append-le (raw_limit limit) bytes more (omega arith) ∙ take_all (raw_limit limit) bytes (omega arith)) in
     record {
       more = omega (arith, full, some, length-append bytes more);
       prefix = subst (λ t. IsBodyPrefix framing limit (drop start t)) whole prefix;
     }
 
 -- an open body goes on after the last octet that a response may have
-pub open_past : (framing : Framing) (limit start : ℕ) (bytes more : List ℕ) → length bytes ≡ max_raw → 0 < length more
+pub open_past : (framing : Framing) (limit start : ℕ) (bytes more : List ℕ) → length bytes ≡ raw_limit limit → 0 < length more
     → IsOpen framing limit (drop start bytes) → GoesOn framing limit start (bytes ++ more)
 open_past framing limit start bytes more full some open' = goes_on framing limit start bytes more full some (open_prefix framing limit (drop start bytes) open')
 
-pub full_past : (framing : Framing) (limit start : ℕ) (bytes more : List ℕ) → length bytes ≡ max_raw → 0 < length more
+pub full_past : (framing : Framing) (limit start : ℕ) (bytes more : List ℕ) → length bytes ≡ raw_limit limit → 0 < length more
     → HasFullTrailers framing limit (drop start bytes) → GoesOn framing limit start (bytes ++ more)
 full_past framing limit start bytes more full some lines = goes_on framing limit start bytes more full some (full_prefix framing limit (drop start bytes) lines)

@@ -6,6 +6,7 @@ use Rattle.http_wire.specs.declared.body_decoder.BodyDecoder.{BodyDecoder}
 use Rattle.http_wire.specs.declared.fault.WireFault.{WireFault}
 use Rattle.http_wire.specs.declared.fault.WireFault.TheVariants.{Device, NoMemory}
 use Rattle.http_wire.specs.declared.framing.Framing.{Framing}
+use Rattle.http_wire.specs.Limits.{raw_limit}
 use Rattle.http_wire.specs.Parts.{Breaks, EndsWaiting, GoesOnWaiting, IsFoundIn}
 use Rattle.http_wire.specs.Reading.{Grows, IsWhole, HasNoBody, TellsBody, ReadsBody}
 use Rattle.http_wire.specs.Seeing.{GivesBody, Refuses, framing_in}
@@ -41,24 +42,26 @@ reads_for framing limit start left left' old seen input decoder result is grows 
   tells = tells_for framing limit start decoder input result is tells;
 }
 
-pub found_read : (framing : Framing) (limit start : ℕ) (left left' : Option (List ℕ)) (old new : List ℕ) (decoder : BodyDecoder) (body : Body)
-    → IsFor framing limit start decoder → IsFoundIn (λ seen _ body. GivesThere decoder seen body) left left' old new body
+pub found_read : (framing : Framing) (limit start : ℕ) (left left' : Option (List ℕ)) (old new : List ℕ) (most : ℕ) (decoder : BodyDecoder) (body : Body)
+    → IsFor framing limit start decoder → most ≡ raw_limit limit → IsFoundIn most (λ seen _ body. GivesThere decoder seen body) left left' old new body
     → ReadsBody framing limit start left old (Ok body)
-found_read framing limit start left left' old new decoder body is found =
+found_read framing limit start left left' old new most decoder body is most_is found =
+    let few : length found.seen ≤ raw_limit decoder.limit =
+    subst (λ n. length found.seen ≤ raw_limit n) (sym is.limit_is) (subst (λ n. length found.seen ≤ n) most_is found.few) in
     reads_for framing limit start left left' old found.seen (found.seen ++ ahead left') decoder (Ok body) is found.grows (whole_now left' found.seen)
-    (given_past (framing_in decoder) decoder.limit decoder.start found.seen (ahead left') body found.given.0 found.few found.given.1)
+    (given_past (framing_in decoder) decoder.limit decoder.start found.seen (ahead left') body found.given.0 few found.given.1)
 
-pub ended_read : (framing : Framing) (limit start : ℕ) (left left' : Option (List ℕ)) (old new : List ℕ) (waits : List ℕ → Type 0) (decoder : BodyDecoder) (result : Result Body WireFault)
-    → IsFor framing limit start decoder → EndsWaiting waits left left' old new
+pub ended_read : (framing : Framing) (limit start : ℕ) (left left' : Option (List ℕ)) (old new : List ℕ) (most : ℕ) (waits : List ℕ → Type 0) (decoder : BodyDecoder) (result : Result Body WireFault)
+    → IsFor framing limit start decoder → EndsWaiting most waits left left' old new
     → TellsBody (framing_in decoder) decoder.limit decoder.start new result → ReadsBody framing limit start left old result
-ended_read framing limit start left left' old new waits decoder result is ends tells =
+ended_read framing limit start left left' old new most waits decoder result is ends tells =
     reads_for framing limit start left ends.before old new new decoder result is ends.came (whole_ended ends.before new ends.ended) tells
 
-pub past_read : (framing : Framing) (limit start : ℕ) (left : Option (List ℕ)) (old new : List ℕ) (waits : List ℕ → Type 0) (decoder : BodyDecoder) (result : Result Body WireFault)
-    → IsFor framing limit start decoder → GoesOnWaiting waits left old new
+pub past_read : (framing : Framing) (limit start : ℕ) (left : Option (List ℕ)) (old new : List ℕ) (most : ℕ) (waits : List ℕ → Type 0) (decoder : BodyDecoder) (result : Result Body WireFault)
+    → IsFor framing limit start decoder → GoesOnWaiting most waits left old new
     → ((more : List ℕ) → 0 < length more → TellsBody (framing_in decoder) decoder.limit decoder.start (new ++ more) result)
     → ReadsBody framing limit start left old result
-past_read framing limit start left old new waits decoder result is on tells =
+past_read framing limit start left old new most waits decoder result is on tells =
     let (more, some, whole) = whole_past on.before new on.more in
     reads_for framing limit start left on.before old new (new ++ more) decoder result is on.came whole (tells more some)
 

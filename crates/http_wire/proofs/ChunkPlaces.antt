@@ -11,7 +11,6 @@ use Rattle.httparse.specs.Grammar.{ChunkLine, print_chunk_line, chunk_size, Read
 use Rattle.httparse.specs.Spans.{SectionOverflows}
 use Rattle.http_wire.specs.Limits.{max_trailers}
 use Rattle.http_wire.specs.declared.chunked.ChunkState.TheVariants as places
-use Rattle.http_wire.specs.declared.chunked.ChunkDecoder.{ChunkDecoder}
 use Rattle.http_wire.specs.Chunks.{Chunk, print_chunk, IsChunk, print_chunks, joined, ReadsChunks, ReadsTrailers, GivesWhole, GivesCut, AfterLast, AfterOctets, IsOpenEnd, NeverHasEnd, EndsInTrailers, in_line, in_octets, in_end, in_trailers, EndsInChunked, IsTooLong, HasTooManyLines, bad_end, bad_trailers, too_long, IsBadChunked, EndsTooLong}
 use Rattle.http_wire.specs.Decoding.{Decoded}
 use Rattle.http_wire.proofs.ChunkLists.{regroup}

@@ -13,7 +13,7 @@ use Rattle.http_wire.specs.declared.fault.WireFault.{WireFault}
 use Rattle.http_wire.specs.declared.fault.WireFault.TheVariants.{EarlyEnd, BadHead, HeadTooLong, TooManyInterim, BadLength, BadChunk, Coding, Device, NoMemory, TooMuch}
 use Rattle.http_wire.specs.declared.framing.Framing.{Framing}
 use Rattle.http_wire.specs.declared.framing.Unframed.{Unframed}
-use Rattle.http_wire.specs.Limits.{max_raw}
+use Rattle.http_wire.specs.Limits.{raw_limit}
 use Rattle.http_wire.specs.declared.response.HttpReply.{HttpReply}
 use Rattle.http_wire.proofs.BodyLaws.{body_unique, body_ends, body_bad, body_prefix}
 use Rattle.http_wire.proofs.HeadFacts.{final_append}
@@ -77,11 +77,12 @@ too_much_excludes : (input : List ℕ) (limit : ℕ) (reply : Reply) → Respons
 too_much_excludes input limit reply response much =
     let gives = response.gives in
     let prefix = much.prefix in
-    let behind = drop max_raw input in
-    let whole : take max_raw input ++ behind ≡ input = take-append-drop max_raw input in
+    let most = raw_limit limit in
+    let behind = drop most input in
+    let whole : take most input ++ behind ≡ input = take-append-drop most input in
     let final : HasFinal input prefix.head (prefix.text ++ behind) =
     subst (λ (t : List ℕ). HasFinal t prefix.head (prefix.text ++ behind)) whole
-    (final_append (take max_raw input) prefix.head prefix.text behind prefix.final) in
+    (final_append (take most input) prefix.head prefix.text behind prefix.final) in
     let heads = final_unique input prefix.head gives.head (prefix.text ++ behind) gives.text final gives.final in
     let framing = same_framing prefix.head gives.head prefix.framing gives.framing heads.0 prefix.framed gives.framed in
     let n = length prefix.text in
@@ -89,8 +90,8 @@ too_much_excludes input limit reply response much =
     let lengths = ap length heads.1 in
     let sum = length-append prefix.text behind in
     let total = ap length whole in
-    let parts = length-append (take max_raw input) behind in
-    let taken = length-take max_raw input in
+    let parts = length-append (take most input) behind in
+    let taken = length-take most input in
     body_prefix gives.framing limit n gives.text reply.body reply.cut response.rest
     (subst (λ (t : List ℕ). IsBodyPrefix gives.framing limit t) (sym cut) (subst (λ f. IsBodyPrefix f limit prefix.text) framing prefix.fact))
     (omega (arith, much.more, lengths, sum, total, parts, taken))

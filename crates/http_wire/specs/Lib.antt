@@ -3,6 +3,7 @@
 pub mod Bodies
 pub mod Chunks
 pub mod Decoding
+pub mod FieldValues
 pub mod Fields
 pub mod Finding
 pub mod Freshness

@@ -9,7 +9,7 @@ use Rattle.http_wire.specs.declared.buffer.Fill.TheVariants.{More, Ended, Past}
 use Rattle.http_wire.specs.declared.fault.WireFault.{WireFault}
 use Rattle.http_wire.specs.declared.fault.WireFault.TheVariants.{EarlyEnd, BadHead, HeadTooLong, TooManyInterim, BadLength, BadChunk, Coding, Device, NoMemory, TooMuch}
 use Rattle.http_wire.specs.declared.framing.Framing.{Framing}
-use Rattle.http_wire.specs.Limits.{max_raw}
+use Rattle.http_wire.specs.Limits.{raw_limit}
 
 -- the buffer grew by what the source gave
 pub record Grows (left left' : Option (List ℕ)) (old new : List ℕ) : Type 0 where
@@ -24,15 +24,15 @@ TakesAtMost most (Some octets) None = ⊥
 TakesAtMost most (Some octets) (Some octets') = length octets ≤ most + length octets'
 
 -- no more than what is missing in the buffer to the longest response, and one octet that shows that there are more
-abbrev pub TakesTheRest : List ℕ → Option (List ℕ) → Option (List ℕ) → Type 0
-TakesTheRest old left left' = TakesAtMost (max_raw + 1 - length old) left left'
+abbrev pub TakesTheRest : ℕ → List ℕ → Option (List ℕ) → Option (List ℕ) → Type 0
+TakesTheRest most old left left' = TakesAtMost (most + 1 - length old) left left'
 
--- the effect of a call that fills the buffer, by its answer
-abbrev pub Fills : Option (List ℕ) → Option (List ℕ) → List ℕ → List ℕ → Fill → Type 0
-Fills left left' old new More = Grows left left' old new × (length old < length new)
-Fills left left' old new Ended = IsAtEnd left × (new ≡ old) × Grows left left' old new
-Fills left left' old new Past =
-    IfSome left (λ octets. 0 < length octets) × (length old ≡ max_raw) × (new ≡ old)
+-- the effect of a call that fills the buffer up to as many octets as a response may have, by its answer
+abbrev pub Fills : ℕ → Option (List ℕ) → Option (List ℕ) → List ℕ → List ℕ → Fill → Type 0
+Fills most left left' old new More = Grows left left' old new × (length old < length new)
+Fills most left left' old new Ended = IsAtEnd left × (new ≡ old) × Grows left left' old new
+Fills most left left' old new Past =
+    IfSome left (λ octets. 0 < length octets) × (length old ≡ most) × (new ≡ old)
 
 -- the input is what was seen and any known rest of the source
 pub record IsWhole (left : Option (List ℕ)) (seen input : List ℕ) : Type 0 where
@@ -44,12 +44,12 @@ pub record IsWhole (left : Option (List ℕ)) (seen input : List ℕ) : Type 0 w
 pub record HasBody (framing : Framing) (limit start : ℕ) (input : List ℕ) (body : Body) : Type 0 where
   pub rest : List ℕ
   pub gives : Gives framing limit (drop start input) body.octets.items body.cut rest
-  pub within : length input ≤ max_raw + length rest
+  pub within : length input ≤ raw_limit limit + length rest
 
 -- the input goes on where the body should have ended
 pub record GoesOn (framing : Framing) (limit start : ℕ) (input : List ℕ) : Type 0 where
-  pub more : max_raw < length input
-  pub prefix : IsBodyPrefix framing limit (drop start (take max_raw input))
+  pub more : raw_limit limit < length input
+  pub prefix : IsBodyPrefix framing limit (drop start (take (raw_limit limit) input))
 
 -- the fault's cause: no body from a place on
 abbrev pub HasNoBody : WireFault → Framing → ℕ → ℕ → List ℕ → Type 0

@@ -12,7 +12,7 @@ use Rattle.http_wire.specs.declared.fault.WireFault.{WireFault}
 use Rattle.http_wire.specs.declared.fault.WireFault.TheVariants.{EarlyEnd, BadHead, HeadTooLong, TooManyInterim, BadLength, BadChunk, Coding, Device, NoMemory, TooMuch}
 use Rattle.http_wire.specs.declared.framing.Framing.{Framing}
 use Rattle.http_wire.specs.declared.framing.Unframed.TheVariants as Unframed
-use Rattle.http_wire.specs.Limits.{max_raw}
+use Rattle.http_wire.specs.Limits.{raw_limit}
 use Rattle.http_wire.specs.declared.response.HttpReply.{HttpReply}
 
 -- what a reader of the response gets
@@ -42,7 +42,7 @@ pub record GivesReply (input : List ℕ) (limit : ℕ) (reply : Reply) (rest : L
 pub record Response (input : List ℕ) (limit : ℕ) (reply : Reply) : Type 0 where
   pub rest : List ℕ
   pub gives : GivesReply input limit reply rest
-  pub within : length input ≤ max_raw + length rest
+  pub within : length input ≤ raw_limit limit + length rest
 
 -- the fact holds of the final head
 pub record AtFinal (Fact : ResponseHead → Type 0) (input : List ℕ) : Type 0 where
@@ -69,8 +69,8 @@ EndsEarly input limit =
 
 -- the input goes on where a response should have ended
 pub record IsTooMuch (input : List ℕ) (limit : ℕ) : Type 0 where
-  pub more : max_raw < length input
-  pub prefix : InBody (λ framing after. IsBodyPrefix framing limit after) (take max_raw input)
+  pub more : raw_limit limit < length input
+  pub prefix : InBody (λ framing after. IsBodyPrefix framing limit after) (take (raw_limit limit) input)
 
 -- the cause of the fault
 abbrev pub Cause : WireFault → List ℕ → ℕ → Type 0

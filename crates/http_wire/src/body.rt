@@ -1,6 +1,7 @@
 //! Bodies, read by their framing.
 //! RFC 9112, section 6.
 ghost use Rattle.std.specs.Prelude.{◌≡◌, ◌≤◌, length};
+ghost use Rattle.http_wire.specs.Limits.{raw_limit};
 ghost use Rattle.http_wire.specs.Reading.{ReadsBody, TakesTheRest};
 ghost use Rattle.http_wire.specs.Response.{failures_after_reading};
 
@@ -8,7 +9,7 @@ use crate::body_decoder::BodyDecoder;
 use crate::buffer::Buffer;
 use crate::fault::WireFault;
 use crate::framing::Framing;
-use crate::limits::MAX_RAW;
+use crate::limits::raw_limit;
 use crate::part::{Reached, fill_until};
 use counted_io::Source;
 use std::alloc::Global;
@@ -32,13 +33,14 @@ pub(crate) fn read_body<S: Source>(
     limit: usize,
 ) -> Result<Body, WireFault>
     requires start { start ≤ length buffer.old }
-    requires within { length buffer.old ≤ MAX_RAW }
+    requires within { length buffer.old ≤ raw_limit limit }
     ensures reads { ReadsBody framing limit start (S.left source.old) buffer.old result }
     ensures count { S.failures source.new ≡ failures_after_reading (S.failures source.old) result }
-    ensures takes { TakesTheRest buffer.old (S.left source.old) (S.left source.new) }
+    ensures takes { TakesTheRest (raw_limit limit)
+        buffer.old (S.left source.old) (S.left source.new) }
 {
     let mut decoder = BodyDecoder::new(alloc, framing, start, limit);
-    match fill_until(alloc, source, buffer, &mut decoder)? {
+    match fill_until(alloc, source, buffer, &mut decoder, raw_limit(limit))? {
         Reached::Parsed(body) => Ok(body),
         Reached::Ended => decoder.end(alloc, buffer),
         Reached::Past => decoder.past(alloc, buffer),

@@ -1,6 +1,7 @@
 //! A body, decoded by its framing from all octets received.
 //! RFC 9112, section 6.3.
 ghost use Rattle.std.specs.Prelude.{◌≡◌, ◌≤◌, ◌<◌, ◌+◌, ◌++◌, ℕ, List, Bool, true, None, Ok, IfOk, IfErr, drop, length, take};
+ghost use Rattle.http_wire.specs.Limits.{raw_limit};
 ghost use Rattle.http_wire.specs.Reading.{TellsBody};
 ghost use Rattle.http_wire.specs.Response.{failures_after_reading};
 ghost use Rattle.http_wire.specs.Decoding.{KeepsBounds, Stands};
@@ -12,7 +13,6 @@ use crate::buffer::Buffer;
 use crate::chunked::ChunkDecoder;
 use crate::fault::WireFault;
 use crate::framing::Framing;
-use crate::limits::MAX_RAW;
 use crate::part::Part;
 use crate::part_seen::PartSeen;
 use std::alloc::Global;
@@ -66,7 +66,7 @@ impl BodyDecoder {
     /// The last look, at the end of the input.
     pub(crate) fn end(&mut self, alloc: Global, buffer: &mut Buffer) -> Result<Body, WireFault>
         requires stands { BodyStands self.old buffer.old }
-        requires within { length buffer.old ≤ MAX_RAW }
+        requires within { length buffer.old ≤ raw_limit self.old.limit }
         ensures tells { TellsBody (framing_in self.old) self.old.limit self.old.start
             buffer.old result }
         ensures count { (failures : ℕ) → failures_after_reading failures result ≡ failures }
@@ -81,7 +81,7 @@ impl BodyDecoder {
     /// The last look, when more follows than a response may have.
     pub(crate) fn past(&mut self, alloc: Global, buffer: &mut Buffer) -> Result<Body, WireFault>
         requires stands { BodyStands self.old buffer.old }
-        requires full { length buffer.old ≡ MAX_RAW }
+        requires full { length buffer.old ≡ raw_limit self.old.limit }
         ensures tells { (more : List ℕ) → 0 < length more
             → TellsBody (framing_in self.old) self.old.limit self.old.start
             (buffer.old ++ more) result }
@@ -116,7 +116,7 @@ impl BodyDecoder {
 
     fn end_open(&self, alloc: Global, buffer: &mut Buffer) -> Result<Body, WireFault>
         requires stands { BodyStands self.now buffer.old }
-        requires within { length buffer.old ≤ MAX_RAW }
+        requires within { length buffer.old ≤ raw_limit self.now.limit }
         requires open { IsOpen (framing_in self.now) self.now.limit
             (drop self.now.start buffer.old) }
         ensures tells { TellsBody (framing_in self.now) self.now.limit self.now.start

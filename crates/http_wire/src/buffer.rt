@@ -7,7 +7,7 @@ ghost use Rattle.http_wire.specs.Reading.{Fills, Grows, TakesAtMost, TakesTheRes
 ghost use Rattle.http_wire.specs.Response.{failures_after_reading};
 
 use crate::fault::WireFault;
-use crate::limits::MAX_RAW;
+use crate::limits::MOST_RAW;
 use counted_io::{DeviceFault, Source};
 use std::alloc::{AllocError, Global};
 use std::marker::Model;
@@ -27,7 +27,7 @@ pub(crate) enum Fill {
     Past,
 }
 
-/// The octets received, at most `MAX_RAW`, followed by room for the next read.
+/// The octets received, at most `MOST_RAW`, followed by room for the next read.
 #[derive(Drop)]
 pub(crate) struct Buffer {
     room: Vec<u8>,
@@ -36,14 +36,14 @@ pub(crate) struct Buffer {
 
 impl Model for Buffer {
     ghost use Rattle.std.specs.Prelude.{◌≤◌, ℕ, List, take, vec_len};
-    ghost use Rattle.http_wire.specs.declared.limits.TheConstants.{MAX_RAW};
+    ghost use Rattle.http_wire.specs.declared.limits.TheConstants.{MOST_RAW};
 
     ghost Value = { List ℕ };
 
     ghost view = { λ buffer. take buffer.end buffer.room.items };
 
     ghost invariant = { λ buffer. (buffer.end ≤ vec_len buffer.room)
-        × (vec_len buffer.room ≤ MAX_RAW) };
+        × (vec_len buffer.room ≤ MOST_RAW) };
 }
 
 impl Buffer {
@@ -60,27 +60,29 @@ impl Buffer {
     /// The octets received.
     pub(crate) fn octets(&self) -> &[u8]
         ensures value { result.now ≡ self.now }
-        ensures within { length self.now ≤ MAX_RAW }
+        ensures within { length self.now ≤ MOST_RAW }
     {
         &self.room[..self.end]
     }
 
-    /// Appends what one read gives.
-    pub(crate) fn fill<S: Source>(&mut self, source: &mut S) -> Result<Fill, WireFault>
+    /// Appends what one read gives, up to `most` octets in all.
+    pub(crate) fn fill<S: Source>(&mut self, source: &mut S, most: usize) -> Result<Fill, WireFault>
+        requires few { length self.old ≤ most }
+        requires bound { most ≤ MOST_RAW }
         ensures ok { IfOk result (λ fill.
-            Fills (S.left source.old) (S.left source.new) self.old self.new fill) }
+            Fills most (S.left source.old) (S.left source.new) self.old self.new fill) }
         ensures count { S.failures source.new
             ≡ failures_after_reading (S.failures source.old) result }
         ensures err { OnErr result
             ((result ≡ Err WireFault.Device) ⊎ (result ≡ Err WireFault.NoMemory)) }
-        ensures within { length self.new ≤ MAX_RAW }
-        ensures takes { TakesTheRest self.old (S.left source.old) (S.left source.new) }
+        ensures within { length self.new ≤ most }
+        ensures takes { TakesTheRest most self.old (S.left source.old) (S.left source.new) }
     {
-        if self.end == MAX_RAW {
-            return self.look_past(source);
+        if self.end == most {
+            return self.look_past(source, most);
         }
-        make_room(&mut self.room, self.end)?;
-        let count = read_behind(source, self.room.as_mut_slice(), self.end)?;
+        make_room(&mut self.room, self.end, most)?;
+        let count = read_behind(source, self.room.as_mut_slice(), self.end, most)?;
         self.end += count;
         if count == 0 {
             Ok(Fill::Ended)
@@ -101,10 +103,10 @@ impl Buffer {
         octets
     }
 
-    fn look_past<S: Source>(&self, source: &mut S) -> Result<Fill, WireFault>
-        requires { length self.now ≡ MAX_RAW }
+    fn look_past<S: Source>(&self, source: &mut S, most: usize) -> Result<Fill, WireFault>
+        requires { length self.now ≡ most }
         ensures ok { IfOk result (λ fill.
-            Fills (S.left source.old) (S.left source.new) self.now self.now fill) }
+            Fills most (S.left source.old) (S.left source.new) self.now self.now fill) }
         ensures count { S.failures source.new
             ≡ failures_after_reading (S.failures source.old) result }
         ensures err { OnErr result (result ≡ Err WireFault.Device) }
@@ -117,30 +119,38 @@ impl Buffer {
     }
 }
 
-// Room for an octet after the first `end`; doubles a full buffer.
-fn make_room(room: &mut Vec<u8>, end: usize) -> Result<(), AllocError>
+// Room for an octet after the first `end`; doubles a full buffer, up to `most` octets.
+fn make_room(room: &mut Vec<u8>, end: usize, most: usize) -> Result<(), AllocError>
     requires within { end ≤ vec_len room.old }
-    requires not_full { end < MAX_RAW }
-    requires small { vec_len room.old ≤ MAX_RAW }
+    requires not_full { end < most }
+    requires small { (vec_len room.old ≤ MOST_RAW) × (most ≤ MOST_RAW) }
     ensures kept { take end room.new.items ≡ take end room.old.items }
     ensures more { OnOk result (end < vec_len room.new) }
-    ensures bounds { (end ≤ vec_len room.new) × (vec_len room.new ≤ MAX_RAW) }
+    ensures bounds { (end ≤ vec_len room.new) × (vec_len room.new ≤ MOST_RAW) }
 {
     if end == room.len() {
-        room.resize((end * 2).clamp(FIRST_READ, MAX_RAW), 0)?;
+        room.resize((end * 2).max(FIRST_READ).min(most), 0)?;
     }
     Ok(())
 }
 
-fn read_behind<S: Source>(source: &mut S, room: &mut [u8], end: usize) -> Result<usize, DeviceFault>
-    requires { end < length room.old }
+// Reads octets into the room after the first `end`, so that it has at most `most` of them.
+fn read_behind<S: Source>(
+    source: &mut S,
+    room: &mut [u8],
+    end: usize,
+    most: usize,
+) -> Result<usize, DeviceFault>
+    requires { (end < length room.old) × (end < most) }
     ensures ok { IfOk result (λ count. end + count ≤ length room.new
         × Grows (S.left source.old) (S.left source.new)
         (take end room.old) (take (end + count) room.new)) }
+    ensures few { IfOk result (λ count. end + count ≤ most) }
     ensures ended { result ≡ Ok 0 → IsAtEnd (S.left source.old) }
     ensures kept { (length room.new ≡ length room.old) × (take end room.new ≡ take end room.old) }
-    ensures takes { TakesAtMost (length room.old - end) (S.left source.old) (S.left source.new) }
+    ensures takes { TakesAtMost (most - end) (S.left source.old) (S.left source.new) }
     ensures count { S.failures source.new ≡ failures_after (S.failures source.old) result }
 {
-    source.read(&mut room[end..])
+    let upto = room.len().min(most);
+    source.read(&mut room[end..upto])
 }

@@ -25,7 +25,7 @@ pub enum WireFault {
     Device,
     /// No memory for the octets of the response.
     NoMemory,
-    /// The response is longer than `MAX_RAW` octets.
+    /// The response is longer than a response may be: `MAX_RAW` octets, or more with a great limit of its body.
     TooMuch,
 }
 

@@ -8,6 +8,7 @@ mod buffer;
 mod chunked;
 mod fault;
 mod fields;
+mod forwarded_fields;
 mod framing;
 mod freshness;
 mod head;
@@ -23,9 +24,11 @@ mod response;
 mod trailers;
 
 pub use fault::WireFault;
+pub use forwarded_fields::{FieldValue, ForwardedFields};
 pub use kept_fields::KeptField;
 pub use limits::{
-    MAX_HEAD, MAX_HEADER_LINES, MAX_INTERIM_HEADS, MAX_RAW, MAX_TRAILER_BYTES, MAX_TRAILERS,
+    LARGEST_LIMIT, MAX_HEAD, MAX_HEADER_LINES, MAX_INTERIM_HEADS, MAX_RAW, MAX_TRAILER_BYTES,
+    MAX_TRAILERS, USUAL_LIMIT,
 };
-pub use request::write_get;
+pub use request::{write_get, write_get_with};
 pub use response::{HttpReply, read_response};

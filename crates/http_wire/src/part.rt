@@ -7,7 +7,7 @@ ghost use Rattle.http_wire.specs.Response.{failures_after_reading};
 
 use crate::buffer::{Buffer, Fill};
 use crate::fault::WireFault;
-use crate::limits::MAX_RAW;
+use crate::limits::MOST_RAW;
 use counted_io::Source;
 use std::alloc::Global;
 
@@ -42,7 +42,7 @@ pub(crate) trait Part {
         buffer: &mut Buffer,
     ) -> Result<Option<Self::Parsed>, WireFault>
         requires stands { Self.stands self.old buffer.old }
-        requires few { length buffer.old ≤ MAX_RAW }
+        requires few { length buffer.old ≤ MOST_RAW }
         ensures kept { Self.kept self.new ≡ Self.kept self.old }
         ensures ok { IfOk result (λ found. MatchOption found
             ((buffer.new ≡ buffer.old) × Self.waits self.new buffer.old
@@ -63,28 +63,30 @@ pub(crate) enum Reached<T> {
     Past,
 }
 
-/// Looks for a part, and reads more until it is found.
+/// Looks for a part, and reads more until it is found, at most `most` octets of the response in all.
 pub(crate) fn fill_until<S: Source, P: Part>(
     alloc: Global,
     source: &mut S,
     buffer: &mut Buffer,
     part: &mut P,
+    most: usize,
 ) -> Result<Reached<P::Parsed>, WireFault>
-    requires stands { P.stands part.old buffer.old × (length buffer.old ≤ MAX_RAW) }
+    requires stands { P.stands part.old buffer.old }
+    requires few { (length buffer.old ≤ most) × (most ≤ MOST_RAW) }
     ensures kept { P.kept part.new ≡ P.kept part.old }
-    ensures ok { IfOk result (Stops (P.waits part.new) (P.gives (P.kept part.old))
+    ensures ok { IfOk result (Stops most (P.waits part.new) (P.gives (P.kept part.old))
         (S.left source.old) (S.left source.new) buffer.old buffer.new) }
     ensures err { IfErr result
         (Breaks (P.refuses (P.kept part.old)) (S.left source.old) buffer.old) }
     ensures count { S.failures source.new ≡ failures_after_reading (S.failures source.old) result }
-    ensures takes { TakesTheRest buffer.old (S.left source.old) (S.left source.new) }
+    ensures takes { TakesTheRest most buffer.old (S.left source.old) (S.left source.new) }
 {
     loop {
         match part.look(alloc, buffer)? {
             Some(found) => return Ok(Reached::Parsed(found)),
             None => {}
         }
-        match buffer.fill(source)? {
+        match buffer.fill(source, most)? {
             Fill::More => {}
             Fill::Ended => return Ok(Reached::Ended),
             Fill::Past => return Ok(Reached::Past),

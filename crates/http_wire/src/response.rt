@@ -3,7 +3,7 @@
 ghost use Rattle.std.specs.Prelude.{◌≡◌, ◌+◌, ◌≤◌, [], length, IfErr, IfOk};
 ghost use Rattle.http_wire.specs.Finding.{Fails, IsFound};
 ghost use Rattle.http_wire.specs.Kept.{KeepsOf, kept_pairs};
-ghost use Rattle.http_wire.specs.Limits.{AreLimits, max_raw};
+ghost use Rattle.http_wire.specs.Limits.{AreLimits, raw_limit};
 ghost use Rattle.http_wire.specs.Reading.{Grows, TakesAtMost};
 ghost use Rattle.http_wire.specs.Response.{Finds, Tells, failures_after_reading};
 
@@ -12,7 +12,7 @@ use crate::buffer::Buffer;
 use crate::fault::WireFault;
 use crate::head::{FinalHead, HeadFinder};
 use crate::kept_fields::{KeptField, kept_in};
-use crate::limits::MAX_RAW;
+use crate::limits::raw_limit;
 use crate::part::{Reached, fill_until};
 use counted_io::Source;
 use std::alloc::{AllocError, Global};
@@ -46,9 +46,10 @@ impl HttpReply {
     }
 }
 
-/// Reads one response, at most `limit` octets of its body. Stops reading once the response or its fault is
+/// Reads one response, at most `limit` octets of its body, and of all its octets at most `MAX_RAW`, and as
+/// many more as `limit` is over `USUAL_LIMIT`; a limit over `LARGEST_LIMIT` gives no more of these. Stops reading once the response or its fault is
 /// certain; the last read may bring later octets. May wait for the source. The octets are in one buffer of
-/// 16,384 octets, which doubles up to `MAX_RAW`; while it grows, old and new may both be held. A counted
+/// 16,384 octets, which doubles up to that; while it grows, old and new may both be held. A counted
 /// body, or one to the end of the input, is handed out in that memory. One in chunks allocates its octets
 /// again, at most `limit`, and the spare room of a growing list. The final head's octets and the text of
 /// Location are allocated besides.
@@ -61,7 +62,7 @@ pub fn read_response<S: Source>(
     ensures found { Finds (S.left source.old) limit result }
     ensures limits { AreLimits }
     ensures count { S.failures source.new ≡ failures_after_reading (S.failures source.old) result }
-    ensures takes { TakesAtMost (max_raw + 1) (S.left source.old) (S.left source.new) }
+    ensures takes { TakesAtMost (raw_limit limit + 1) (S.left source.old) (S.left source.new) }
 {
     read_reply(alloc, source, limit)
 }
@@ -74,10 +75,10 @@ fn read_reply<S: Source>(
 ) -> Result<HttpReply, WireFault>
     ensures tells { Tells (S.left source.old) limit result }
     ensures count { S.failures source.new ≡ failures_after_reading (S.failures source.old) result }
-    ensures takes { TakesAtMost (max_raw + 1) (S.left source.old) (S.left source.new) }
+    ensures takes { TakesAtMost (raw_limit limit + 1) (S.left source.old) (S.left source.new) }
 {
     let mut buffer = Buffer::new(alloc);
-    let head = read_final(alloc, source, &mut buffer)?;
+    let head = read_final(alloc, source, &mut buffer, limit)?;
     let body = read_body(alloc, source, &mut buffer, head.framing, head.end, limit)?;
     Ok(HttpReply {
         status: head.status,
@@ -89,21 +90,23 @@ fn read_reply<S: Source>(
     })
 }
 
-// Reads up to the final head.
+// Reads up to the final head of a response of whose body at most `limit` octets are read.
 fn read_final<S: Source>(
     alloc: Global,
     source: &mut S,
     buffer: &mut Buffer,
+    limit: usize,
 ) -> Result<FinalHead, WireFault>
     requires { buffer.old ≡ [] }
-    ensures found { IfOk result (λ head. IsFound buffer.new head × (length buffer.new ≤ MAX_RAW)) }
+    ensures found { IfOk result (λ head. IsFound buffer.new head
+        × (length buffer.new ≤ raw_limit limit)) }
     ensures grows { IfOk result (λ _. Grows (S.left source.old) (S.left source.new) [] buffer.new) }
     ensures fails { IfErr result (Fails (S.left source.old) []) }
     ensures count { S.failures source.new ≡ failures_after_reading (S.failures source.old) result }
-    ensures takes { TakesAtMost (max_raw + 1) (S.left source.old) (S.left source.new) }
+    ensures takes { TakesAtMost (raw_limit limit + 1) (S.left source.old) (S.left source.new) }
 {
     let mut finder = HeadFinder::new();
-    match fill_until(alloc, source, buffer, &mut finder)? {
+    match fill_until(alloc, source, buffer, &mut finder, raw_limit(limit))? {
         Reached::Parsed(head) => Ok(head),
         Reached::Ended => finder.end(alloc, buffer.octets()),
         // More octets than eight interim heads and a final one may have.

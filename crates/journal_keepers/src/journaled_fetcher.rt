@@ -6,7 +6,7 @@ ghost use Rattle.http_wire.specs.declared.fault.WireFault.{WireFault};
 use counted_io::DeviceFault;
 use fetchers::{Fetcher, PageLeave, RobotsLeave};
 use http_client::Failure;
-use http_wire::{HttpReply, WireFault};
+use http_wire::{ForwardedFields, HttpReply, WireFault};
 use journal::CatchesUp;
 use path_normal::Schemes;
 use stream_waits::Deadline;
@@ -26,13 +26,20 @@ pub struct JournaledFetcher<'a, A, F> {
 impl<'a, A: CatchesUp, F: Fetcher> Fetcher for JournaledFetcher<'a, A, F> {
     ghost use Rattle.journal_keepers.specs.Fetching.{GivesBehind};
 
-    ghost gives = { λ behind limit url reply.
-        GivesBehind (A.comes behind.ahead 0) (F.gives behind.fetcher.now limit url) reply };
+    ghost gives = { λ behind. record {
+      page_limit = (F.gives behind.fetcher.now).page_limit;
+      holds = λ limit url reply.
+          GivesBehind (A.comes behind.ahead 0) ((F.gives behind.fetcher.now).holds limit url) reply;
+    } };
 
     ghost follows = { λ behind. F.follows behind.fetcher.now };
 
     fn schemes(&self) -> Schemes {
         self.fetcher.schemes()
+    }
+
+    fn page_limit(&self) -> usize {
+        self.fetcher.page_limit()
     }
 
     fn begin_walk(&self) -> Option<Deadline> {
@@ -55,11 +62,12 @@ impl<'a, A: CatchesUp, F: Fetcher> Fetcher for JournaledFetcher<'a, A, F> {
     fn load_page(
         &self,
         leave: PageLeave<'_>,
+        fields: &ForwardedFields<'_>,
         limit: usize,
         failure: &mut Option<Failure>,
     ) -> Result<HttpReply, WireFault> {
         match self.ahead.catch_up(ANY_NUMBER) {
-            Ok(()) => self.fetcher.load_page(leave, limit, failure),
+            Ok(()) => self.fetcher.load_page(leave, fields, limit, failure),
             Err(fault) => leave_page(leave, fault),
         }
     }

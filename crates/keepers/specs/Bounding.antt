@@ -14,7 +14,8 @@ use Rattle.crawl_job.specs.declared.hop.Hop.TheVariants as hops
 use Rattle.crawl_job.specs.declared.hop.Refusal.{Refusal}
 use Rattle.crawl_job.specs.declared.job.Job.{Job}
 use Rattle.crawl_job.specs.declared.job.Outcome.{Outcome}
-use Rattle.page_worker.specs.declared.visiting.PageVisit.{PageVisit}
+use Rattle.page_worker.specs.declared.visiting.Visited.{Visited}
+use Rattle.page_worker.specs.declared.visiting.Visited.TheVariants as visiteds
 use Rattle.page_worker.specs.Newcomers.{LooksFor}
 use Rattle.page_worker.specs.Visits.{visit_without}
 use Rattle.keepers.specs.declared.bounds.Bounds.{Bounds}
@@ -78,5 +79,5 @@ abbrev pub RefusesFetch : Refusal → DeskView → BagView → Option (Result Ou
 RefusesFetch refusal d b told d2 b2 = TellsRefused refusal told × Stays d b d2 b2
 
 -- visit: it is refused so, and nothing is fetched
-abbrev pub RefusesVisit : Refusal → DeskView → BagView → Option PageVisit → DeskView → BagView → Type 0
-RefusesVisit refusal d b told d2 b2 = (told ≡ Some (visit_without (hops.Err refusal))) × Stays d b d2 b2
+abbrev pub RefusesVisit : Refusal → DeskView → BagView → Option Visited → DeskView → BagView → Type 0
+RefusesVisit refusal d b told d2 b2 = (told ≡ Some (visiteds.Done (visit_without (hops.Err refusal)))) × Stays d b d2 b2

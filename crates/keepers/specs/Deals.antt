@@ -13,7 +13,7 @@ use Rattle.gate_core.specs.declared.state.Standing.{Standing}
 use Rattle.gate_core.specs.declared.state.State.{State}
 use Rattle.crawl_job.specs.declared.job.Job.{Job}
 use Rattle.crawl_job.specs.declared.job.Outcome.{Outcome}
-use Rattle.page_worker.specs.declared.visiting.PageVisit.{PageVisit}
+use Rattle.page_worker.specs.declared.visiting.Visited.{Visited}
 use Rattle.keepers.specs.declared.counts.Counts.{Counts}
 use Rattle.path_normal.specs.declared.schemes.Schemes.{Schemes}
 
@@ -31,6 +31,6 @@ pub record Deals (S : Type 0) : Type 1 where
   pub reads : S → (authority : List ℕ) (moment : ℕ) → State → S → Type 0
   pub refreshes : (reads : ℕ → Type 0) → S → (authority : List ℕ) → Option (Result Standing BeginRefusal) → S → Type 0
   pub fetches : (reads : ℕ → Type 0) → S → Job → Option (Result Outcome NoMemory) → S → Type 0
-  pub visits : (reads : ℕ → Type 0) → S → Job → Option PageVisit → S → Type 0
+  pub visits : (reads : ℕ → Type 0) → S → Job → Option Visited → S → Type 0
   pub seals : S → Result Sealed NoMemory → S → Type 0
   pub ends : S → S → Type 0

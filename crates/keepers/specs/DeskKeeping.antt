@@ -14,7 +14,7 @@ use Rattle.gate_marks.specs.Marks.{Receipt}
 use Rattle.gate_lock.specs.Steps.{DeskAsks, DeskReads, DeskSeals, Somewhere}
 use Rattle.crawl_job.specs.declared.job.Job.{Job}
 use Rattle.crawl_job.specs.declared.job.Outcome.{Outcome}
-use Rattle.page_worker.specs.declared.visiting.PageVisit.{PageVisit}
+use Rattle.page_worker.specs.declared.visiting.Visited.{Visited}
 use Rattle.page_worker.specs.Newcomers.{RefreshesWithin}
 use Rattle.page_worker.specs.Outcomes.{Works}
 use Rattle.page_worker.specs.Visits.{VisitsPage}
@@ -61,11 +61,12 @@ KeeperFetches world d b job (Some (Ok outcome)) d2 b2 = Works world job outcome 
 KeeperFetches world d b job (Some (Err _)) d2 b2 = (d2 ≡ d) × (b2 ≡ b)
 KeeperFetches world d b job None d2 b2 = ⊥
 
--- visit: the desk's visit to the page of a job, where so many more authorities may become known, with nothing handed
--- out or left to spend
-abbrev pub KeeperVisits : World → DeskView → BagView → Job → ℕ → Option PageVisit → DeskView → BagView → Type 0
-KeeperVisits world d b job left (Some visit) d2 b2 = VisitsPage world job left visit d d2 × KeepsOut d d2 × (b2 ≡ b)
-KeeperVisits world d b job left None d2 b2 = ⊥
+-- visit: the desk's visit to the page of a job, where so many more authorities may become known, and so many behind
+-- it, with nothing handed out or left to spend
+abbrev pub KeeperVisits : World → DeskView → BagView → Job → ℕ → Option Visited → ℕ → DeskView → BagView → Type 0
+KeeperVisits world d b job left (Some visited) left2 d2 b2 =
+    VisitsPage world job left visited left2 d d2 × KeepsOut d d2 × (b2 ≡ b)
+KeeperVisits world d b job left None left2 d2 b2 = ⊥
 
 -- end: each permit of the bag is given back and each fetch finished, in its own step; the bag is empty
 abbrev pub KeeperEnds : DeskView → BagView → DeskView → BagView → Type 0

@@ -8,7 +8,8 @@ use authority_cache::StandingAnswer;
 use crawl_job::{Job, Outcome};
 use gate_core::{AskRefusal, BeginRefusal, Book, Denial, NoMemory, Standing, Started, State};
 use gate_history::{Reason, Segment};
-use page_worker::{Clock, PageVisit};
+use http_wire::ForwardedFields;
+use page_worker::{Clock, Visited};
 use path_normal::{Authority, PageUrl, Schemes};
 use permit_book::{NotOut, PermitNo};
 use robots_text::Token;
@@ -135,7 +136,13 @@ impl<'a> Keeper for BookKeeper<'a> {
         None
     }
 
-    fn visit<C: Clock>(&mut self, _alloc: Global, _job: Job, _clock: &C) -> Option<PageVisit> {
+    fn visit<C: Clock>(
+        &mut self,
+        _alloc: Global,
+        _job: Job,
+        _fields: &ForwardedFields<'_>,
+        _clock: &C,
+    ) -> Option<Visited> {
         None
     }
 

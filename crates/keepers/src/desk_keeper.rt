@@ -20,7 +20,8 @@ use fetchers::Fetcher;
 use gate_core::{AskRefusal, BeginRefusal, Denial, NoMemory, Standing, State};
 use gate_history::{Reason, Segment};
 use gate_lock::{Desk, Gate, GateLock, Receipts};
-use page_worker::{Clock, PageVisit, is_unknown, refresh_within};
+use http_wire::ForwardedFields;
+use page_worker::{Clock, PageVisit, Visited, is_unknown, refresh_within};
 use path_normal::{Authority, PageUrl, Schemes};
 use permit_bag::Bag;
 use permit_book::{NotOut, PermitNo};
@@ -260,7 +261,7 @@ impl<'a, 'g, G: Gate, F: Fetcher, R: Wait, N: DeskRecords + Drop> Keeper
           × RefusesVisit hops.LogFull k.desk k.bag told k2.desk k2.bag)
           (Behind k.desk (λ d. KeeperVisits
           (world_of (F.gives k.fetcher.now) (F.follows k.fetcher.now) reads)
-          d k.bag job k.newcomers told k2.desk k2.bag)));
+          d k.bag job k.newcomers told k2.newcomers k2.desk k2.bag)));
       seals = λ k result k2. ((k2.fetcher ≡ k.fetcher) × (k2.records ≡ k.records)
           × (k2.bounds ≡ k.bounds) × (k2.begun ≡ k.begun) × (k2.newcomers ≡ k.newcomers))
           × InRoom (N.rooms k.records) (RefusesSeal k.desk k.bag result k2.desk k2.bag)
@@ -356,11 +357,18 @@ impl<'a, 'g, G: Gate, F: Fetcher, R: Wait, N: DeskRecords + Drop> Keeper
         Some(self.fetch_desk(alloc, job, clock))
     }
 
-    fn visit<C: Clock>(&mut self, alloc: Global, job: Job, clock: &C) -> Option<PageVisit> {
+    fn visit<C: Clock>(
+        &mut self,
+        alloc: Global,
+        job: Job,
+        fields: &ForwardedFields<'_>,
+        clock: &C,
+    ) -> Option<Visited> {
         if !self.records.has_room() || self.has_entries() {
-            return Some(PageVisit::without(Hop::Err(Refusal::LogFull)));
+            let refused = PageVisit::without(Hop::Err(Refusal::LogFull));
+            return Some(Visited::Done(refused));
         }
-        Some(self.visit_desk(alloc, job, clock))
+        Some(self.visit_desk(alloc, job, fields, clock))
     }
 
     /// The records seal at the desk, if they have room.

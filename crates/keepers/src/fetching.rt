@@ -10,7 +10,8 @@ use crawl_job::{Job, Outcome};
 use fetchers::Fetcher;
 use gate_core::NoMemory;
 use gate_lock::Gate;
-use page_worker::{Clock, PageVisit, visit_page, work_within};
+use http_wire::ForwardedFields;
+use page_worker::{Clock, PageVisitor, Visited, work_within};
 use std::alloc::Global;
 use std::sync::Wait;
 
@@ -45,25 +46,29 @@ impl<'a, 'g, G: Gate, F: Fetcher, R: Wait, N: DeskRecords + Drop> DeskKeeper<'a,
         }
     }
 
-    /// Visits the page of a job.
-    pub(crate) fn visit_desk<C: Clock>(&mut self, alloc: Global, job: Job, clock: &C) -> PageVisit
+    /// Visits the page of a job, with these fields of a client's request.
+    pub(crate) fn visit_desk<C: Clock>(
+        &mut self,
+        alloc: Global,
+        job: Job,
+        fields: &ForwardedFields<'_>,
+        clock: &C,
+    ) -> Visited
         ensures rest { (self.new.fetcher ≡ self.old.fetcher) × (self.new.records ≡ self.old.records)
             × (self.new.bounds ≡ self.old.bounds) × (self.new.begun ≡ self.old.begun) }
         ensures newcomers { self.new.newcomers ≤ self.old.newcomers }
         ensures visits { Behind self.old.desk (λ d. KeeperVisits
             (world_of (F.gives self.old.fetcher.now) (F.follows self.old.fetcher.now) (C.reads clock.now))
-            d self.old.bag job self.old.newcomers (Some result) self.new.desk self.new.bag) }
+            d self.old.bag job self.old.newcomers (Some result) self.new.newcomers self.new.desk self.new.bag) }
     {
         self.make_way();
         let newcomers = &mut self.newcomers;
-        visit_page(
-            self.rt,
+        let visitor = PageVisitor {
+            rt: self.rt,
             alloc,
-            job,
-            &mut self.desk,
-            self.fetcher,
+            fetcher: self.fetcher,
             clock,
-            newcomers,
-        )
+        };
+        visitor.visit(job, fields, &mut self.desk, newcomers)
     }
 }

@@ -7,7 +7,8 @@ use authority_cache::StandingAnswer;
 use crawl_job::{Job, Outcome};
 use gate_core::{AskRefusal, BeginRefusal, Denial, NoMemory, Standing, State};
 use gate_history::{Reason, Segment};
-use page_worker::{Clock, PageVisit};
+use http_wire::ForwardedFields;
+use page_worker::{Clock, Visited};
 use path_normal::{Authority, PageUrl, Schemes};
 use permit_book::{NotOut, PermitNo};
 use robots_text::Token;
@@ -88,9 +89,16 @@ pub trait Keeper {
     ) -> Option<Result<Outcome, NoMemory>>
         ensures { deals.fetches (C.reads clock.now) self.old job result self.new };
 
-    /// Fetches the page of a job once, and hands out its response; no redirect is followed. None if it
+    /// Fetches the page of a job once, with these fields of a client's request, and hands out its response; no
+    /// redirect is followed. It does not wait for a robots.txt that is being fetched for another. None if it
     /// fetches nothing.
-    fn visit<C: Clock>(&mut self, alloc: Global, job: Job, clock: &C) -> Option<PageVisit>
+    fn visit<C: Clock>(
+        &mut self,
+        alloc: Global,
+        job: Job,
+        fields: &ForwardedFields<'_>,
+        clock: &C,
+    ) -> Option<Visited>
         ensures { deals.visits (C.reads clock.now) self.old job result self.new };
 
     /// Hands out the gate's entries since the last seal, of all sessions, with what they follow.

@@ -9,7 +9,6 @@ use crate::recorded::Recorded;
 use crate::warden::Alarm;
 use client_connections::{Connections, Listener};
 use command_server::{NumberedClock, Visits};
-use desk_pool::{Pool, Returned};
 use fetchers::Fetcher;
 use gate_journal::Recording;
 use gate_lock::{Gate, GateLock, Receipts};
@@ -24,6 +23,7 @@ use std::sync::atomic::AtomicU64;
 use std::thread::Threads;
 use std::time::Duration;
 use std::{thread, time};
+use worker_pool::{Pool, Returned};
 
 /// A server's settings: who serves clients and how many, and who fetches.
 #[derive(Drop)]

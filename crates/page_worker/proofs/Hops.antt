@@ -28,7 +28,6 @@ use Rattle.page_worker.specs.declared.way_on.WayOn.{WayOn}
 use Rattle.page_worker.specs.declared.way_on.WayOn.TheVariants as ways
 use Rattle.page_worker.specs.Outcomes.{AfterRefresh, IsFetch, IsLastHop, IsRedirect, IsTurn, MayRefresh, body_given, hop_of, location_given}
 use Rattle.fetchers.specs.Limits.{robots_limit}
-use Rattle.page_worker.specs.Limits.{page_limit}
 use Rattle.page_worker.specs.Refreshes.{BeginsStale, Brings, IsBrought, entries_of}
 use Rattle.page_worker.specs.WaysOn.{AddsEntries, GoesOn, TellsWay, ask_hop}
 use Rattle.page_worker.specs.World.{IsSinceRead, World}
@@ -174,7 +173,7 @@ last_fetch world token url number reason (Err fault) body own fetch ends is =
 
 pub fetch_tells : (world : World) (token url : List ℕ) (number : ℕ)
     (reason : Reason) (granted started followed : ℕ) (given : Result HttpReply WireFault) (way : WayOn) →
-    IsSinceRead world granted → IsSinceRead world started → world.gives page_limit url given →
+    IsSinceRead world granted → IsSinceRead world started → world.gives world.page_limit url given →
     GoesOn world.schemes number reason followed url given way →
     TellsWay world token url followed way
     (entries.Granted granted number (record { token = token; url = url }) ∷ entries.Started started number reason
@@ -207,7 +206,7 @@ fetch_tells world token url number reason granted started followed given (ways.S
 pub fetched_once : (world : World) (permit : Pass) (m followed : ℕ) (run : Run)
     (given : Result HttpReply WireFault) (way : WayOn) (old mid new : DeskView) →
     world.reads m → Somewhere old (λ g g2. DeskStarts old g permit m (Ok run) g2 mid) →
-    world.gives page_limit permit.url given →
+    world.gives world.page_limit permit.url given →
     GoesOn world.schemes permit.number run.reason followed permit.url given way →
     Somewhere mid (λ g g2. DeskFinishes mid g permit.number g2 new) →
     AddsEntries (λ (own : List Entry). (granted : ℕ) → IsSinceRead world granted → TellsWay world permit.token permit.url followed way

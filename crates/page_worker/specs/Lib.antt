@@ -1,5 +1,6 @@
 -- Definitions for jobs and refreshes.
 pub mod Closings
+pub mod Finding
 pub mod Limits
 pub mod Newcomers
 pub mod OutcomeLaws

@@ -1,11 +1,7 @@
--- The limits of pages and hops.
+-- The limit of hops.
 -- RFC 9309, section 2.3.1.2.
 use Rattle.std.specs.Prelude.{ℕ, ◌+◌}
 use Rattle.robots_fetch.specs.Redirects.{most_redirects}
-
--- the octets taken of a page's body
-abbrev pub page_limit : ℕ
-page_limit = 1_048_576
 
 -- the most hops of a job: the followed redirects, their page, and why that is not followed if it redirects too
 abbrev pub max_hops : ℕ

@@ -21,7 +21,6 @@ use Rattle.crawl_job.specs.declared.hop.Refusal.TheVariants as refusals
 use Rattle.crawl_job.specs.declared.job.Job.{Job}
 use Rattle.crawl_job.specs.declared.job.Outcome.{Outcome}
 use Rattle.fetchers.specs.Limits.{robots_limit}
-use Rattle.page_worker.specs.Limits.{page_limit}
 use Rattle.page_worker.specs.Refreshes.{BeganStale, IsBrought, entries_of}
 use Rattle.page_worker.specs.World.{IsSinceRead, World}
 
@@ -86,7 +85,7 @@ pub record IsFetch
   pub started : ℕ
   pub since_granted : IsSinceRead world granted
   pub since_started : IsSinceRead world started
-  pub is_given : world.gives page_limit url given
+  pub is_given : world.gives world.page_limit url given
   pub own_is :
       own ≡ entries.Granted granted number (record { token = token; url = url })
       ∷ entries.Started started number reason ∷ entries.Finished number ∷ []

@@ -19,7 +19,8 @@ use Rattle.crawl_job.specs.declared.hop.Refusal.{Refusal}
 use Rattle.crawl_job.specs.declared.hop.Refusal.TheVariants as refusals
 use Rattle.crawl_job.specs.declared.job.Job.{Job}
 use Rattle.page_worker.specs.declared.visiting.PageVisit.{PageVisit}
-use Rattle.page_worker.specs.Limits.{page_limit}
+use Rattle.page_worker.specs.declared.visiting.Visited.{Visited}
+use Rattle.page_worker.specs.declared.visiting.Visited.TheVariants as visiteds
 use Rattle.page_worker.specs.Newcomers.{IsShutOut}
 use Rattle.page_worker.specs.Outcomes.{IsTurn, hop_of}
 use Rattle.page_worker.specs.Refreshes.{entries_of}
@@ -46,20 +47,24 @@ pub record IsTurnRefused
   pub lacks : Somewhere old (λ before behind. LacksAnswer before authority moment
       × HasNoTurn before authority left refusal × Stays before behind × Looks old before new)
 
--- at a gate of the desk an answer of the authority was in force, or another desk was fetching it
-pub record IsAnswered (world : World) (authority : List ℕ) (old : DeskView) : Type 0 where
+-- at a gate of the desk an answer of the authority was in force
+pub record IsInForce (world : World) (authority : List ℕ) (old : DeskView) : Type 0 where
   pub moment : ℕ
   pub read : world.reads moment
-  pub answered : Somewhere old (λ before behind.
-      (LacksAnswer before authority moment → ⊥) ⊎ (is_fetching (history before) authority ≡ true))
+  pub in_force : Somewhere old (λ before behind. LacksAnswer before authority moment → ⊥)
 
--- an answer of the authority is seen to: a turn brings one, unless one is in force or another desk fetches it; or a
--- gate refuses the turn
-abbrev pub SeesToAnswer : World → List ℕ → ℕ → Result Unit Refusal → DeskView → DeskView → Type 0
-SeesToAnswer world authority left (Ok _) old new =
+-- an answer of the authority is seen to: a turn brings one, unless one is in force
+abbrev pub SeesToAnswer : World → List ℕ → DeskView → DeskView → Type 0
+SeesToAnswer world authority old new =
     AddsEntries (IsTurn world authority) old new
-    ⊎ ((entries_of new.marks ≡ entries_of old.marks) × IsAnswered world authority old)
-SeesToAnswer world authority left (Err refusal) old new = IsTurnRefused world authority left refusal old new
+    ⊎ ((entries_of new.marks ≡ entries_of old.marks) × IsInForce world authority old)
+
+-- no answer of the authority was in force at a gate of the desk, where a turn of it was in flight; nothing is done
+pub record IsInFlight (world : World) (authority : List ℕ) (old new : DeskView) : Type 0 where
+  pub moment : ℕ
+  pub read : world.reads moment
+  pub in_flight : Somewhere old (λ before behind. LacksAnswer before authority moment
+      × (is_fetching (history before) authority ≡ true) × Stays before behind × Looks old before new)
 
 -- ---- what a visit tells
 
@@ -103,7 +108,7 @@ pub record IsFetchedOnce (world : World) (permit : Pass) (visit : PageVisit) (ol
   pub between : DeskView
   pub starts : Somewhere old (λ before behind. DeskStarts old before permit moment (Ok run) behind between)
   pub given : Result HttpReply WireFault
-  pub is_given : world.gives page_limit permit.url given
+  pub is_given : world.gives world.page_limit permit.url given
   pub failure : Option Failure
   pub finishes : Somewhere between (λ before behind. DeskFinishes between before permit.number behind new)
   pub tells : visit ≡ visit_of permit.number run.reason given failure
@@ -134,18 +139,19 @@ pub record IsUnanswered
     (world : World) (authority : List ℕ) (left : ℕ) (visit : PageVisit) (old new : DeskView)
     : Type 0 where
   pub refusal : Refusal
-  pub refused : SeesToAnswer world authority left (Err refusal) old new
+  pub refused : IsTurnRefused world authority left refusal old new
   pub tells : visit ≡ visit_without (hops.Err refusal)
 
 -- one ask is made after an answer was seen to
-pub record IsAsked
-    (world : World) (token url : List ℕ) (left : ℕ) (visit : PageVisit) (old new : DeskView)
-    : Type 0 where
+pub record IsAsked (world : World) (token url : List ℕ) (visit : PageVisit) (old new : DeskView) : Type 0 where
   pub between : DeskView
-  pub sees : SeesToAnswer world (authority_of url) left (Ok tt) old between
+  pub sees : SeesToAnswer world (authority_of url) old between
   pub asks : AsksOnce world token url visit between new
 
--- a visit to the page of a job, where so many more authorities may become known
-abbrev pub VisitsPage : World → Job → ℕ → PageVisit → DeskView → DeskView → Type 0
-VisitsPage world job left visit old new =
-    IsUnanswered world (authority_of job.url) left visit old new ⊎ IsAsked world job.token job.url left visit old new
+-- a visit to the page of a job, where so many more authorities may become known, and so many behind it. It waits for
+-- nobody: where another desk fetches the authority's robots.txt, nothing is done
+abbrev pub VisitsPage : World → Job → ℕ → Visited → ℕ → DeskView → DeskView → Type 0
+VisitsPage world job left (visiteds.Done visit) left2 old new =
+    IsUnanswered world (authority_of job.url) left visit old new ⊎ IsAsked world job.token job.url visit old new
+VisitsPage world job left visiteds.InFlight left2 old new =
+    IsInFlight world (authority_of job.url) old new × (left2 ≡ left)

@@ -1,18 +1,16 @@
 //! Laws of outcomes, and of the limits of jobs.
 //! RFC 9309, sections 2.2 and 2.3.1.2.
 ghost use Rattle.std.specs.Prelude.{◌≡◌};
-ghost use Rattle.page_worker.specs.Limits.{max_hops, page_limit};
+ghost use Rattle.page_worker.specs.Limits.{max_hops};
 ghost use Rattle.page_worker.specs.OutcomeLaws.{FetchesAreCounted, FetchesAreStarted};
 ghost use Rattle.page_worker.specs.World.{world_of};
 
 use crate::clock::Clock;
-use crate::worker::PAGE_LIMIT;
 use crate::working::MAX_HOPS;
 use fetchers::Fetcher;
 
-/// The limits of jobs are those of the definitions.
+/// The limit of jobs is that of the definitions.
 pub fn limits_are()
-    ensures page { PAGE_LIMIT ≡ page_limit }
     ensures hops { MAX_HOPS ≡ max_hops }
 {}
 

@@ -17,5 +17,5 @@ pub use clock::Clock;
 pub use event::{ClosedBy, Event, EventObserver};
 pub use newcomers::is_unknown;
 pub use refreshing::{refresh, refresh_within};
-pub use visiting::{PageVisit, visit_page};
+pub use visiting::{PageVisit, PageVisitor, Visited};
 pub use working::{work, work_observed, work_within};

@@ -125,7 +125,7 @@ fn answer_to_keep<G: Gate, F: Fetcher, N: EventObserver, R: Wait>(
     notes: &N,
     why: &mut ClosedBy,
 ) -> TimedAnswer
-    ensures brings { IsBrought (F.follows fetcher.now) (F.gives fetcher.now robots_limit)
+    ensures brings { IsBrought (F.follows fetcher.now) ((F.gives fetcher.now).holds robots_limit)
         turn.now.authority result.says result.life }
     ensures spares { result.spares ≡ 2 }
 {
@@ -146,7 +146,7 @@ fn fetch_answer<G: Gate, F: Fetcher, N: EventObserver>(
     notes: &N,
     why: &mut ClosedBy,
 ) -> TimedAnswer
-    ensures brings { IsBrought (F.follows fetcher.now) (F.gives fetcher.now robots_limit)
+    ensures brings { IsBrought (F.follows fetcher.now) ((F.gives fetcher.now).holds robots_limit)
         turn.now.authority result.says result.life }
     ensures spares { result.spares ≡ 2 }
 {

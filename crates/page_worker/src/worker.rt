@@ -5,12 +5,12 @@ ghost use Rattle.path_normal.specs.PageText.{authority_of};
 ghost use Rattle.gate_lock.specs.Desks.{HasOut, KeepsOut};
 ghost use Rattle.gate_lock.specs.Steps.{Somewhere};
 ghost use Rattle.gate_history.specs.declared.entry.Entry.{Entry};
+ghost use Rattle.page_worker.specs.Finding.{FindsAnswer};
 ghost use Rattle.page_worker.specs.Limits.{max_hops};
 ghost use Rattle.page_worker.specs.Newcomers.{CountsStale};
 ghost use Rattle.page_worker.specs.Outcomes.{AfterRefresh, AreHops, MayRefresh};
 ghost use Rattle.page_worker.specs.Refreshes.{MayBeginErrand};
 ghost use Rattle.page_worker.specs.Stale.{BeginsIfStale};
-ghost use Rattle.page_worker.specs.Visits.{SeesToAnswer};
 ghost use Rattle.page_worker.specs.WaysOn.{AddsEntries, TellsWay, ask_hop};
 ghost use Rattle.page_worker.specs.World.{IsSinceRead, world_of};
 
@@ -23,13 +23,20 @@ use crawl_job::{Hop, Outcome, Refusal};
 use fetchers::Fetcher;
 use gate_core::{AskRefusal, BeginRefusal};
 use gate_lock::{Desk, Gate, Permit, RobotsTurn};
+use http_wire::ForwardedFields;
 use path_normal::PageUrl;
 use robots_text::Token;
 use std::alloc::Global;
 use std::sync::Wait;
 
-/// The most octets taken of a page's body.
-pub(crate) const PAGE_LIMIT: usize = 1_048_576;
+/// What a worker sees of an authority's answer, for which it does not wait.
+#[derive(Drop)]
+pub(crate) enum AnswerSeen {
+    /// It was in force, or the worker brought it.
+    Answered,
+    /// Another desk is fetching it.
+    InFlight,
+}
 
 #[derive(Drop)]
 pub(crate) struct Worker<'a, F: Fetcher, C: Clock, N: EventObserver, R: Wait> {
@@ -121,7 +128,7 @@ impl<F: Fetcher, C: Clock, N: EventObserver, R: Wait> Worker<'_, F, C, N, R> {
 
     /// Refreshes the answer of a page's authority if none is in force. If another desk does, waits for its
     /// answer.
-    pub(crate) fn see_to_answer<G: Gate>(
+    fn see_to_answer<G: Gate>(
         &self,
         url: &PageUrl,
         desk: &mut Desk<'_, G>,
@@ -130,15 +137,39 @@ impl<F: Fetcher, C: Clock, N: EventObserver, R: Wait> Worker<'_, F, C, N, R> {
         ensures refreshed { AddsEntries
             (MayRefresh (world_of (F.gives self.now.fetcher.now) (F.follows self.now.fetcher.now)
             (C.reads self.now.clock.now)) (authority_of url.now)) desk.old desk.new }
-        ensures sees { SeesToAnswer
+        ensures no { desk.new.no ≡ desk.old.no }
+        ensures out { KeepsOut desk.old desk.new }
+        ensures newcomers { newcomers.new ≤ newcomers.old }
+    {
+        match self.find_answer(url, desk, newcomers) {
+            Ok(AnswerSeen::Answered) => Ok(()),
+            Ok(AnswerSeen::InFlight) => {
+                desk.wait_answer(self.rt, url.authority(), self.clock.now());
+                Ok(())
+            }
+            Err(refusal) => Err(refusal),
+        }
+    }
+
+    /// Refreshes the answer of a page's authority if none is in force and no other desk does.
+    pub(crate) fn find_answer<G: Gate>(
+        &self,
+        url: &PageUrl,
+        desk: &mut Desk<'_, G>,
+        newcomers: &mut u64,
+    ) -> Result<AnswerSeen, Refusal>
+        ensures refreshed { AddsEntries
+            (MayRefresh (world_of (F.gives self.now.fetcher.now) (F.follows self.now.fetcher.now)
+            (C.reads self.now.clock.now)) (authority_of url.now)) desk.old desk.new }
+        ensures finds { FindsAnswer
             (world_of (F.gives self.now.fetcher.now) (F.follows self.now.fetcher.now) (C.reads self.now.clock.now))
-            (authority_of url.now) newcomers.old result desk.old desk.new }
+            (authority_of url.now) newcomers.old result newcomers.new desk.old desk.new }
         ensures no { desk.new.no ≡ desk.old.no }
         ensures out { KeepsOut desk.old desk.new }
         ensures newcomers { newcomers.new ≤ newcomers.old }
     {
         match self.begin_stale(url, desk, self.clock.now(), newcomers) {
-            Ok(None) => Ok(()),
+            Ok(None) => Ok(AnswerSeen::Answered),
             Ok(Some(turn)) => {
                 self.notes.sees(Event::AsksRobots(url.authority()));
                 bring_answer(
@@ -150,12 +181,9 @@ impl<F: Fetcher, C: Clock, N: EventObserver, R: Wait> Worker<'_, F, C, N, R> {
                     self.clock,
                     self.notes,
                 );
-                Ok(())
+                Ok(AnswerSeen::Answered)
             }
-            Err(BeginRefusal::InFlight) => {
-                desk.wait_answer(self.rt, url.authority(), self.clock.now());
-                Ok(())
-            }
+            Err(BeginRefusal::InFlight) => Ok(AnswerSeen::InFlight),
             Err(BeginRefusal::LogFull) => Err(Refusal::LogFull),
             Err(BeginRefusal::AuthoritiesFull) => Err(Refusal::AuthoritiesFull),
             Err(BeginRefusal::NoMemory) => Err(Refusal::NoMemory),
@@ -234,7 +262,9 @@ impl<F: Fetcher, C: Clock, N: EventObserver, R: Wait> Worker<'_, F, C, N, R> {
         let reason = running.reason();
         let mut failure = None;
         self.notes.sees(Event::Fetches);
-        let (fetched, given) = self.fetcher.fetch_page(running, PAGE_LIMIT, &mut failure);
+        let (fetched, given) = self
+            .fetcher
+            .fetch_page(running, &ForwardedFields::none(), &mut failure);
         self.notes.sees(Event::Fetched(failure));
         let schemes = self.fetcher.schemes();
         let way = way_on(

@@ -6,7 +6,7 @@ ghost use Rattle.path_pattern.specs.Literals.{IsAfterFirst, StandsNowhere};
 ghost use Rattle.path_pattern.specs.Sorted.{ArePlacesOf};
 
 use crate::fronts::{Fronts, count_hints, no_fronts, spell_fronts};
-use crate::kept::{Marked, Room, Stand, first_among, forget_marks, forget_stands};
+use crate::kept::{Marked, Room, Stand, first_in, forget_marks, forget_stands, range_kept};
 use crate::literals::first_place;
 use crate::slots::{FIRST_SLOTS, SlotDraw};
 use crate::suffix_array::SuffixArray;
@@ -114,16 +114,12 @@ impl<'p, 'k> Path<'p, 'k> {
         if places.is_empty() || literal.is_empty() {
             return first_from(text, literal, from);
         }
-        first_among(
-            self.kept,
-            self.marked,
-            &mut self.draw,
-            text,
-            places,
-            fronts,
-            literal,
-            from,
-        )
+        let draw = &mut self.draw;
+        let range = range_kept(self.kept, draw, text, places, fronts, literal);
+        if from >= text.len() {
+            return None;
+        }
+        first_in(self.marked, text, places, literal, range, from as u16)
     }
 }
 

@@ -81,6 +81,10 @@ pub record AreBoundsOfClients (permits authorities entries : Option ℕ) : Type 
 abbrev pub AreTexts : Option ℕ → Type 0
 AreTexts texts = IsBoundWithin text_limit (2 ^ 63 - 1) texts
 
+-- the octets that are read of a page: at least one, and at most 64 MiB
+abbrev pub IsPageLimit : ℕ → Type 0
+IsPageLimit limit = (1 ≤ limit) × (limit ≤ 67108864)
+
 -- a server's workers, connections and patience are within their limits, and so are the bounds of its clients; its
 -- book's limits and its fetches are as for a shift
 pub record AreForServe (options : ServeOptions) : Type 0 where
@@ -94,6 +98,7 @@ pub record AreForServe (options : ServeOptions) : Type 0 where
   pub ahead : IsAllowedAhead options.ahead
   pub bounds : AreBoundsOfClients options.client_permits options.client_authorities options.client_entries
   pub texts : AreTexts options.texts
+  pub page_limit : IsPageLimit options.page_limit
   pub journal : IfSome options.journal (λ journal. IsRoom journal.room)
 
 -- the TLS program of what fetches is on this machine, its contact can be a comment, and its journal's room is in range
@@ -252,6 +257,7 @@ pub record AreServeNumbers (numbers : ServeNumbers) : Type 0 where
   pub limits : AreLimits numbers.limits
   pub times : AreWithin numbers.times
   pub texts : AreTexts numbers.texts
+  pub page_limit : IsPageLimit numbers.page_limit
   pub clients : AreClientBounds numbers.clients
 
 -- the numbers of a server are those matched
@@ -261,6 +267,7 @@ pub record AreServeNumbersOf (words : Found) (numbers : ServeNumbers) : Type 0 w
   pub limits : AreLimitsOf words numbers.limits
   pub times : AreTimesOf words numbers.times
   pub texts : IsBoundOf words (codes "texts") numbers.texts
+  pub page_limit : IsNumberOf words (codes "page-limit") numbers.page_limit
   pub clients : AreClientBoundsOf words numbers.clients
 
 -- the options of a server are those matched
@@ -276,6 +283,7 @@ pub record AreServeOf (words : Found) (options : ServeOptions) : Type 0 where
   pub limits : AreLimitsOf words options.limits
   pub times : AreTimesOf words options.times
   pub texts : IsBoundOf words (codes "texts") options.texts
+  pub page_limit : IsNumberOf words (codes "page-limit") options.page_limit
   pub patience : IsNumberOf words (codes "patience") options.patience
   pub ahead : IsAheadOf words options.ahead
   pub client_permits : IsBoundOf words (codes "client-permits") options.client_permits

@@ -3,8 +3,8 @@
 use crate::help;
 use crate::number_arguments::{
     AHEAD, AUTHORITIES, CLIENT_AUTHORITIES, CLIENT_ENTRIES, CLIENT_PERMITS, CLIENTS, CONNECT,
-    CONNECTIONS, DELAY, FETCH, GENERATION, JOBS, JOURNAL_ROOM, LOG, NumberArgument, PATIENCE,
-    PLACES, PORT, READ, SEAL_PORT, SLOTS, TEXTS,
+    CONNECTIONS, DELAY, FETCH, GENERATION, JOBS, JOURNAL_ROOM, LOG, NumberArgument, PAGE_LIMIT,
+    PATIENCE, PLACES, PORT, READ, SEAL_PORT, SLOTS, TEXTS,
 };
 use crate::word_arguments::{
     CONTACT, ENDLESS, EXPLAIN, EXPORT, EXPORT_OF_SHIFT, HTTPS, HTTPS_PAGES, JOURNAL,
@@ -95,6 +95,7 @@ const SERVE: SubcommandArguments = SubcommandArguments {
         Argument::Number(READ),
         Argument::Number(FETCH),
         Argument::Number(TEXTS),
+        Argument::Number(PAGE_LIMIT),
         Argument::Word(PUBLIC),
         Argument::Word(NOT_TO),
         Argument::Word(TLS_BY),

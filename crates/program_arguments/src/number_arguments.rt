@@ -116,6 +116,14 @@ pub(crate) const SEAL_PORT: NumberArgument = NumberArgument {
     needs: &[],
 };
 
+/// The octets of a page.
+pub(crate) const PAGE_LIMIT: NumberArgument = NumberArgument {
+    option: options::PAGE_LIMIT,
+    usual: Some(1_048_576),
+    about: "Bytes that are read of a page",
+    needs: &[],
+};
+
 /// The workers of a server.
 pub(crate) const CLIENTS: NumberArgument = NumberArgument {
     option: options::CLIENTS,

@@ -119,6 +119,13 @@ pub(crate) const SEAL_PORT: NumberOption = NumberOption {
     most: 65_535,
 };
 
+/// The octets of a page.
+pub(crate) const PAGE_LIMIT: NumberOption = NumberOption {
+    name: "page-limit",
+    least: 1,
+    most: 67_108_864,
+};
+
 /// The workers of a server.
 pub(crate) const CLIENTS: NumberOption = NumberOption {
     name: "workers",

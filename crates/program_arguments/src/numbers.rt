@@ -11,7 +11,8 @@ ghost use Rattle.http_client.specs.TimeLimits.{AreWithin};
 
 use crate::number_options::{
     AHEAD, AUTHORITIES, CLIENT_AUTHORITIES, CLIENT_ENTRIES, CLIENT_PERMITS, CLIENTS, CONNECT,
-    CONNECTIONS, DELAY, FETCH, JOBS, LOG, NumberOption, PATIENCE, PLACES, READ, SLOTS, TEXTS,
+    CONNECTIONS, DELAY, FETCH, JOBS, LOG, NumberOption, PAGE_LIMIT, PATIENCE, PLACES, READ, SLOTS,
+    TEXTS,
 };
 use crate::subcommand::Ahead;
 use clap::ArgMatches;
@@ -156,6 +157,7 @@ pub(crate) struct ServeNumbers {
     pub(crate) limits: Limits,
     pub(crate) times: TimeLimits,
     pub(crate) texts: Option<u64>,
+    pub(crate) page_limit: u64,
     pub(crate) clients: ClientBounds,
 }
 
@@ -170,6 +172,7 @@ pub(crate) fn serve_numbers_of(matches: &ArgMatches<'_>) -> Option<ServeNumbers>
         limits: limits_of(matches, Limits::usual().first_generation)?,
         times: times_of(matches)?,
         texts: bound_of(matches, TEXTS)?,
+        page_limit: number_of(matches, PAGE_LIMIT)?,
         clients: client_bounds_of(matches)?,
     })
 }

@@ -141,6 +141,8 @@ pub struct ServeOptions {
     pub contact: Contact,
     /// How many octets of robots texts are kept together, if that is bounded.
     pub texts: Option<u64>,
+    /// How many octets of a page are read at most, from 1 to 67,108,864.
+    pub page_limit: u64,
     /// The seconds to wait for a client between two line ends.
     pub patience: u64,
     /// How long the gate may fetch for lines sent ahead.

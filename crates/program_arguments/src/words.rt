@@ -241,6 +241,7 @@ fn serve_of(alloc: Global, matches: &ArgMatches<'_>) -> Result<Subcommand, WordF
         limits: numbers.limits,
         times: numbers.times,
         texts: numbers.texts,
+        page_limit: numbers.page_limit,
         reach: fetching.reach,
         not_to: fetching.not_to,
         tls_by: fetching.tls_by,

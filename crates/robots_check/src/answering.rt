@@ -29,19 +29,26 @@ use std::alloc::{AllocError, Global};
 // The most URLs without an index: to make one takes as long as to try each rule on so many.
 const FEW_URLS: usize = 16;
 
+/// What is asked of a text: whether a crawler of this token may fetch each URL, in what detail.
+#[derive(Clone, Copy)]
+pub(crate) struct Question<'q> {
+    pub(crate) token: &'q Token,
+    pub(crate) urls: &'q [&'q [u8]],
+    pub(crate) detail: Detail,
+}
+
 /// Reports what may surprise in a text, whose body had so many octets. Then writes the answer to each URL,
 /// and returns their joint outcome. An explanation tries each rule anyway, so it needs no index.
 pub(crate) fn answer<W: Sink, E: Sink>(
     alloc: Global,
     text: RobotsText,
     count: usize,
-    token: &Token,
-    urls: &[&[u8]],
-    detail: Detail,
+    question: Question<'_>,
     writer: &mut W,
     errors: &mut E,
 ) -> Result<CheckOutcome, TextFault>
-    ensures tells { Tells detail text token.now (map (λ url. url.now) urls.now)
+    ensures tells { Tells question.entry.detail text question.entry.token.now
+        (map (λ url. url.now) question.entry.urls.now)
         (W.written writer.old) (W.written writer.new) result }
     ensures writes { W.failures writer.new
         ≡ failures_after_writes (W.failures writer.old) result }
@@ -49,17 +56,13 @@ pub(crate) fn answer<W: Sink, E: Sink>(
         (E.written errors.old) (E.written errors.new)
         (E.failures errors.old) (E.failures errors.new)) }
 {
-    if urls.len() <= FEW_URLS || detail == Detail::Explained {
-        return answer_by(
-            alloc, &text, None, count, token, urls, detail, writer, errors,
-        );
+    if question.urls.len() <= FEW_URLS || question.detail == Detail::Explained {
+        return answer_by(alloc, &text, None, count, question, writer, errors);
     }
     let policy = indexed(alloc, text)?;
     let text = policy.text();
     let policy = Some(&policy);
-    answer_by(
-        alloc, text, policy, count, token, urls, detail, writer, errors,
-    )
+    answer_by(alloc, text, policy, count, question, writer, errors)
 }
 
 fn indexed(alloc: Global, text: RobotsText) -> Result<Policy, AllocError>
@@ -74,14 +77,13 @@ fn answer_by<W: Sink, E: Sink>(
     text: &RobotsText,
     policy: Option<&Policy>,
     count: usize,
-    token: &Token,
-    urls: &[&[u8]],
-    detail: Detail,
+    question: Question<'_>,
     writer: &mut W,
     errors: &mut E,
 ) -> Result<CheckOutcome, TextFault>
     requires { IfSome policy (λ policy. policy.now ≡ text.now) }
-    ensures tells { Tells detail text.now token.now (map (λ url. url.now) urls.now)
+    ensures tells { Tells question.entry.detail text.now question.entry.token.now
+        (map (λ url. url.now) question.entry.urls.now)
         (W.written writer.old) (W.written writer.new) result }
     ensures writes { W.failures writer.new
         ≡ failures_after_writes (W.failures writer.old) result }
@@ -89,6 +91,11 @@ fn answer_by<W: Sink, E: Sink>(
         (E.written errors.old) (E.written errors.new)
         (E.failures errors.old) (E.failures errors.new)) }
 {
+    let Question {
+        token,
+        urls,
+        detail,
+    } = question;
     let said = SaidLines::of(alloc, text)?;
     tell_said_notes(alloc, &said, count, errors)?;
     let lines = token_lines(alloc, &said, token, detail)?;

@@ -4,7 +4,7 @@ ghost use Rattle.std.specs.Prelude.{◌≡◌, IfOk, map};
 ghost use Rattle.robots_check.specs.Checks.{Checks, ChecksInput, ChecksLines, failures_after_reads, failures_after_writes};
 ghost use Rattle.robots_check.specs.Notes.{IsNoted, NotesFront, NotesText, notes_text};
 
-use crate::answering::answer;
+use crate::answering::{Question, answer};
 use crate::body::{read_body, read_whole};
 use crate::check_outcome::CheckOutcome;
 use crate::detail::Detail;
@@ -39,7 +39,12 @@ pub fn check<R: Source, W: Sink, E: Sink>(
     let body = read_body(alloc, reader)?;
     let count = body.len();
     let text = RobotsText::of(body);
-    answer(alloc, text, count, token, urls, detail, writer, errors)
+    let question = Question {
+        token,
+        urls,
+        detail,
+    };
+    answer(alloc, text, count, question, writer, errors)
 }
 
 /// `check` with the URLs in the input, one a line, after the robots text: that ends at the first empty line
@@ -67,8 +72,12 @@ pub fn check_input<R: Source, W: Sink, E: Sink>(
     let urls = urls_of(alloc, lines)?;
     let text = RobotsText::read(alloc, front)?;
     let count = front.len();
-    let urls = urls.as_slice();
-    answer(alloc, text, count, token, urls, detail, writer, errors)
+    let question = Question {
+        token,
+        urls: urls.as_slice(),
+        detail,
+    };
+    answer(alloc, text, count, question, writer, errors)
 }
 
 /// `check` with only URLs in the input, one a line, and the robots text from this body: nothing in the body
@@ -95,6 +104,10 @@ pub fn check_lines<R: Source, W: Sink, E: Sink>(
     let urls = urls_of(alloc, lines.as_slice())?;
     let text = RobotsText::read(alloc, body)?;
     let count = body.len();
-    let urls = urls.as_slice();
-    answer(alloc, text, count, token, urls, detail, writer, errors)
+    let question = Question {
+        token,
+        urls: urls.as_slice(),
+        detail,
+    };
+    answer(alloc, text, count, question, writer, errors)
 }

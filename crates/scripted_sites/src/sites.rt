@@ -4,9 +4,9 @@ ghost use Rattle.std.specs.Option.{option_map};
 ghost use Rattle.scripted_sites.specs.Scripted.{IsScripted, scripted_response};
 
 use counted_io::Counted;
-use fetchers::{Fetcher, PageLeave, RobotsLeave};
+use fetchers::{Fetcher, PAGE_LIMIT, PageLeave, RobotsLeave};
 use http_client::Failure;
-use http_wire::{HttpReply, WireFault, read_response};
+use http_wire::{ForwardedFields, HttpReply, WireFault, read_response};
 use path_normal::{PageUrl, Schemes};
 use robots_text::MAX_TEXT;
 use std::alloc::Global;
@@ -56,9 +56,13 @@ impl<'a> ScriptedSites<'a> {
 
 impl<'a> Fetcher for ScriptedSites<'a> {
     ghost use Rattle.scripted_sites.specs.Scripted.{GivesScripted};
+    ghost use Rattle.fetchers.specs.Limits.{page_limit};
     ghost use Rattle.path_normal.specs.declared.schemes.Schemes.TheVariants.{Http};
 
-    ghost gives = { λ sites. GivesScripted sites.pages.now };
+    ghost gives = { λ sites. record {
+      page_limit = page_limit;
+      holds = GivesScripted sites.pages.now;
+    } };
 
     ghost follows = { λ _. Http };
 
@@ -67,9 +71,14 @@ impl<'a> Fetcher for ScriptedSites<'a> {
         Schemes::Http
     }
 
+    fn page_limit(&self) -> usize {
+        PAGE_LIMIT
+    }
+
     fn load_page(
         &self,
         leave: PageLeave<'_>,
+        _fields: &ForwardedFields<'_>,
         limit: usize,
         _failure: &mut Option<Failure>,
     ) -> Result<HttpReply, WireFault> {

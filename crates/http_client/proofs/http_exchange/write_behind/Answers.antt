@@ -2,19 +2,18 @@
 use Rattle.std.proofs.KnownBytes.{Appends-trans}
 use Rattle.std.proofs.lemmas.Result.{on_err_weaker, on_ok_weaker}
 use Rattle.counted_io.proofs.CallerLemmas.{on_err, prefix_longer}
-use Rattle.path_normal.specs.PageText.{host_of, target_of}
-use Rattle.http_wire.specs.Request.{request}
+use Rattle.http_client.specs.Requests.{octets_of}
 use Rattle.http_client.proofs.Exchanges.{prefix_behind}
 use Rattle.http_client.proofs.http_exchange.write_behind.Goals as goal
 
 pub returns-in_err-write_all-clause-err : goal.returns-in_err-write_all-clause-err
 returns-in_err-write_all-clause-err g c =
-    on_err c.from_residual.result (prefix_longer _ _ c.args.header.now (request (target_of c.args.url.now) (host_of c.args.url.now) c.args.agent.now) c.in_err-write_all.ensures.err)
+    on_err c.from_residual.result (prefix_longer _ _ c.args.header.now (octets_of c.args.page.now) c.in_err-write_all.ensures.err)
 
 pub returns-clause-ok : goal.returns-clause-ok
 returns-clause-ok g c =
-    on_ok_weaker c.write_get.result (Appends-trans _ _ _ c.args.header.now (request (target_of c.args.url.now) (host_of c.args.url.now) c.args.agent.now) c.in_ok-write_all.ensures.ok) c.write_get.ensures.ok
+    on_ok_weaker c.write_get_with.result (Appends-trans _ _ _ c.args.header.now (octets_of c.args.page.now) c.in_ok-write_all.ensures.ok) c.write_get_with.ensures.ok
 
 pub returns-clause-err : goal.returns-clause-err
 returns-clause-err g c =
-    on_err_weaker c.write_get.result (prefix_behind _ _ _ c.args.header.now (request (target_of c.args.url.now) (host_of c.args.url.now) c.args.agent.now) c.in_ok-write_all.ensures.ok) c.write_get.ensures.err
+    on_err_weaker c.write_get_with.result (prefix_behind _ _ _ c.args.header.now (octets_of c.args.page.now) c.in_ok-write_all.ensures.ok) c.write_get_with.ensures.err

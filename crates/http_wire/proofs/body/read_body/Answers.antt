@@ -17,7 +17,7 @@ pub returns-in-Parsed-clause-reads : goal.returns-in-Parsed-clause-reads
 returns-in-Parsed-clause-reads g c =
     let new = c.new-decoder.ensures in
     let is : IsFor c.args.framing c.args.limit c.args.start c.new-decoder.result = record { framing_is = new.framing; limit_is = new.limit; start_is = new.start } in
-    found_read _ _ _ _ _ _ _ _ _ is (rw c.in-Parsed.is at c.in_ok-body.ensures.ok)
+    found_read _ _ _ _ _ _ _ _ _ _ is c.raw_limit.ensures.is (rw c.in-Parsed.is at c.in_ok-body.ensures.ok)
 
 pub returns-in-Ended-clause-reads : goal.returns-in-Ended-clause-reads
 returns-in-Ended-clause-reads g c =
@@ -28,7 +28,7 @@ returns-in-Ended-clause-reads g c =
       limit_is = ap (λ k. k.2) kept ∙ new.limit;
       start_is = ap (λ k. k.1) kept ∙ new.start;
     } in
-    ended_read _ _ _ _ _ _ _ _ _ _ is (rw c.in-Ended.is at c.in_ok-body.ensures.ok) c.end.ensures.tells
+    ended_read _ _ _ _ _ _ _ _ _ _ _ is (rw c.in-Ended.is at c.in_ok-body.ensures.ok) c.end.ensures.tells
 
 pub returns-clause-reads : goal.returns-clause-reads
 returns-clause-reads g c =
@@ -39,4 +39,4 @@ returns-clause-reads g c =
       limit_is = ap (λ k. k.2) kept ∙ new.limit;
       start_is = ap (λ k. k.1) kept ∙ new.start;
     } in
-    past_read _ _ _ _ _ _ _ _ _ is (rw c.in-Past.is at c.in_ok-body.ensures.ok) c.past.ensures.tells
+    past_read _ _ _ _ _ _ _ _ _ _ is (rw c.in-Past.is at c.in_ok-body.ensures.ok) c.past.ensures.tells

@@ -13,7 +13,7 @@ use Rattle.page_worker.proofs.refreshing.fetch_answer.Goals as goal
 pub fetch_robots-given-requires : goal.fetch_robots-given-requires
 fetch_robots-given-requires g c =
     let schemes = g.F.Fetcher.follows c.args.fetcher.now in
-    let gives = g.F.Fetcher.gives c.args.fetcher.now robots_limit in
+    let gives = (g.F.Fetcher.gives c.args.fetcher.now).holds robots_limit in
     let under = c.loop-next.invariant in
     let P : List ℕ → Type 0 = λ url. AreLed schemes gives (robots_url_of c.args.turn.now.authority) under.way url in
     (under.way, subst P (sym c.url-url.ensures) under.are_led)
@@ -21,7 +21,7 @@ fetch_robots-given-requires g c =
 pub returns-in-Done-clause-brings : goal.returns-in-Done-clause-brings
 returns-in-Done-clause-brings g c =
     let schemes = g.F.Fetcher.follows c.args.fetcher.now in
-    let gives = g.F.Fetcher.gives c.args.fetcher.now robots_limit in
+    let gives = (g.F.Fetcher.gives c.args.fetcher.now).holds robots_limit in
     let walk = c.loop-next.walk in
     let P : List ℕ → Type 0 = λ url. gives url c.fetch_robots-given.result in
     let Q : RobotsReply → Type 0 = λ reply. StepsAmong c.schemes-schemes.result walk reply (Done c.in-Done.answer) in
@@ -32,7 +32,7 @@ returns-in-Done-clause-brings g c =
 pub loop-next-preserved-in-Go : goal.loop-next-preserved-in-Go
 loop-next-preserved-in-Go g c =
     let schemes = g.F.Fetcher.follows c.args.fetcher.now in
-    let gives = g.F.Fetcher.gives c.args.fetcher.now robots_limit in
+    let gives = (g.F.Fetcher.gives c.args.fetcher.now).holds robots_limit in
     let walk = c.loop-next.walk in
     let P : List ℕ → Type 0 = λ url. gives url c.fetch_robots-given.result in
     let Q : RobotsReply → Type 0 = λ reply. StepsAmong c.schemes-schemes.result walk reply (Go c.in-Go.next) in
@@ -43,5 +43,5 @@ loop-next-preserved-in-Go g c =
 pub loop-next-init : goal.loop-next-init
 loop-next-init g c =
     let P : List ℕ → Type 0 = λ authority. IsBegun authority c.in-Ok.walk in
-    begin_walk (g.F.Fetcher.follows c.args.fetcher.now) (g.F.Fetcher.gives c.args.fetcher.now robots_limit) c.args.turn.now.authority c.in-Ok.walk
+    begin_walk (g.F.Fetcher.follows c.args.fetcher.now) ((g.F.Fetcher.gives c.args.fetcher.now).holds robots_limit) c.args.turn.now.authority c.in-Ok.walk
     (subst P c.authority.ensures c.in-Ok.ensures)

@@ -2,7 +2,7 @@
 -- Used by `do_all`.
 use Rattle.std.proofs.Common.{List, ap, arith, length, subst}
 use Rattle.job_line.specs.Covers.{SeatView}
-use Rattle.desk_pool.specs.Pools.{ReturnEach}
+use Rattle.worker_pool.specs.Pools.{ReturnEach}
 use Rattle.crawl_workers.specs.Crews.{Ends}
 use Rattle.page_worker.specs.World.{world_of}
 use Rattle.crawl_workers.proofs.Handing.{all_did, works_as_many}

@@ -11,7 +11,7 @@ use Rattle.gate_ledgers.proofs.counted_book.CountedBook.start.Goals as goal
 
 pub invariant_of-self : goal.invariant_of-self
 invariant_of-self g c =
-    let e = Started (moment_at c.self.inside.book c.args.moment) c.args.number c.in-Ok.started.reason in
+    let e = Started (moment_at c.self.inside.book c.args.moment) c.args.permit.0 c.in-Ok.started.reason in
     let adds = c.in-Ok.ensures.4 in (
       begun c.no_later_entry_closes.ensures.one_more c.self.inside.book c.start_standing-result.new.self e adds
           (c.each_entry_counts.ensures (history c.self.inside.book) e c.history-legal.ensures.legal adds.fit)
@@ -23,9 +23,9 @@ invariant_of-self g c =
 pub invariant_of-self-in-Err : goal.invariant_of-self-in-Err
 invariant_of-self-in-Err g c =
     let old = c.self.inside.book in
-    let e = StartDenied (moment_at old c.args.moment) c.args.number c.in-Err.refused.cause in
-    let out = subst (λ (g : Gate). stands (history g) c.args.number c.args.token.now c.args.url ≡ true) (sym c.self.view_is) c.requires.stands in
-    let adds = denied old c.start_standing-result.new.self c.args.number c.args.token.now c.args.url c.args.moment c.in-Err.refused out c.in-Err.ensures in (
+    let e = StartDenied (moment_at old c.args.moment) c.args.permit.0 c.in-Err.refused.cause in
+    let out = subst (λ (g : Gate). stands (history g) c.args.permit.0 c.args.token.now c.args.url ≡ true) (sym c.self.view_is) c.requires.stands in
+    let adds = denied old c.start_standing-result.new.self c.args.permit.0 c.args.token.now c.args.url c.args.moment c.in-Err.refused out c.in-Err.ensures in (
       ended c.no_later_entry_closes.ensures.one_more old c.start_standing-result.new.self e 1 0 0 adds
           (c.each_entry_counts.ensures (history old) e c.history-legal.ensures.legal adds.fit)
           c.self.inside.tally c.enter.new.tally c.spend-in-Err.new.self c.self.invariant.0 c.enter.ensures.total c.spend-in-Err.ensures,

@@ -5,4 +5,4 @@ use Rattle.http_wire.specs.Response.{Tells}
 use Rattle.http_client.proofs.tcp_client.TcpClient.fetch_by_tls.Given as goal
 
 abbrev pub invariant-loop-address : goal.invariant-loop-address
-invariant-loop-address g l = Tells None l.asked.limit (Err l.last)
+invariant-loop-address g l = Tells None l.asked.page.now.limit (Err l.last)

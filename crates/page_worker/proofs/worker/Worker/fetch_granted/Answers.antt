@@ -4,7 +4,6 @@ use Rattle.path_normal.specs.declared.schemes.Schemes.{Schemes}
 use Rattle.gate_history.specs.declared.outcome.Reason.{Reason}
 use Rattle.gate_lock.specs.Desks.{Pass}
 use Rattle.gate_lock.specs.Steps.{DeskFinishes, Somewhere}
-use Rattle.page_worker.specs.Limits.{page_limit}
 use Rattle.page_worker.specs.WaysOn.{GoesOn}
 use Rattle.page_worker.specs.World.{world_of}
 use Rattle.page_worker.proofs.Hops.{fetched_once, start_denied}
@@ -31,7 +30,7 @@ returns-clause-tells g c =
     let R : List ℕ → Type 0 = λ u. GoesOn c.schemes-schemes.result permit.number run.reason c.args.followed u given way in
     let V : Schemes → Type 0 = λ schemes. GoesOn schemes permit.number run.reason c.args.followed permit.url given way in
     let S : Pass → Type 0 = λ p. Somewhere c.start.new.self (λ g1 g2. DeskFinishes c.start.new.self g1 p.number g2 c.finish.new.self) in
-    let T : Pass → Type 0 = λ p. world.gives page_limit p.url given in
+    let T : Pass → Type 0 = λ p. world.gives world.page_limit p.url given in
     fetched_once world permit c.now.result c.args.followed run given way c.args.desk.now c.start.new.self c.finish.new.self
     c.now.ensures c.in-Ok.ensures.step (subst T pass c.fetch_page-fetched.ensures.given)
     (subst V c.schemes-schemes.ensures (subst R url (subst Q c.reason-reason.ensures (subst P number c.way_on-way.ensures))))

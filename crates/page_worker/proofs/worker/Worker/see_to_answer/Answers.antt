@@ -1,65 +1,12 @@
--- A turn that began brings its answer; a mere look makes no turn, and a refusal has its cause.
-use Rattle.std.proofs.Common.{inl, subst}
-use Rattle.std.specs.Prelude.{Err, Ok, Option}
+-- What was found stays so while the answer of another desk is awaited.
 use Rattle.path_normal.specs.PageText.{authority_of}
-use Rattle.gate_core.specs.declared.refusal.BeginRefusal.{BeginRefusal}
-use Rattle.gate_core.specs.declared.refusal.BeginRefusal.TheVariants as begin
-use Rattle.gate_lock.specs.Desks.{Errand}
-use Rattle.crawl_job.specs.declared.hop.Refusal.TheVariants as refusals
-use Rattle.page_worker.specs.Refreshes.{MayBeginErrand}
+use Rattle.page_worker.specs.Outcomes.{MayRefresh}
 use Rattle.page_worker.specs.World.{world_of}
-use Rattle.page_worker.proofs.Hops.{answer_brought, refreshed}
-use Rattle.page_worker.proofs.Seeing.{BeginsSomewhere, awaited, in_force, turn_refused}
+use Rattle.page_worker.proofs.Seeing.{awaited}
 use Rattle.page_worker.proofs.worker.Worker.see_to_answer.Goals as goal
 
-pub returns-in-Ok-Some-clause-refreshed : goal.returns-in-Ok-Some-clause-refreshed
-returns-in-Ok-Some-clause-refreshed g c =
+pub returns-in-Ok-InFlight-clause-refreshed : goal.returns-in-Ok-InFlight-clause-refreshed
+returns-in-Ok-InFlight-clause-refreshed g c =
     let world = world_of (g.F.Fetcher.gives c.args.self.now.fetcher.now) (g.F.Fetcher.follows c.args.self.now.fetcher.now) (g.C.Clock.reads c.args.self.now.clock.now) in
-    let P : Option Errand → Type 0 = λ may. MayBeginErrand world (authority_of c.args.url.now) (Ok may) c.args.desk.now c.begin_stale.new.desk in
-    refreshed world (authority_of c.args.url.now)
-    c.in-Ok-Some.turn c.bring_answer.result c.args.desk.now c.begin_stale.new.desk c.bring_answer.new.desk
-    (subst P c.in-Ok-Some.field-0-is c.in-Ok-Some.ensures.begins) c.bring_answer.ensures.brings
-
-pub returns-in-Ok-Some-clause-sees : goal.returns-in-Ok-Some-clause-sees
-returns-in-Ok-Some-clause-sees g c =
-    let world = world_of (g.F.Fetcher.gives c.args.self.now.fetcher.now) (g.F.Fetcher.follows c.args.self.now.fetcher.now) (g.C.Clock.reads c.args.self.now.clock.now) in
-    let P : Option Errand → Type 0 = λ may. MayBeginErrand world (authority_of c.args.url.now) (Ok may) c.args.desk.now c.begin_stale.new.desk in
-    inl (answer_brought world (authority_of c.args.url.now)
-    c.in-Ok-Some.turn c.bring_answer.result c.args.desk.now c.begin_stale.new.desk c.bring_answer.new.desk
-    (subst P c.in-Ok-Some.field-0-is c.in-Ok-Some.ensures.begins) c.bring_answer.ensures.brings)
-
-pub returns-in-Ok-None-clause-sees : goal.returns-in-Ok-None-clause-sees
-returns-in-Ok-None-clause-sees g c =
-    let P : Option Errand → Type 0 = λ may. BeginsSomewhere (authority_of c.args.url.now) c.now.result c.args.newcomers.now (Ok may)
-    c.begin_stale.new.newcomers c.args.desk.now c.begin_stale.new.desk in
-    in_force (world_of (g.F.Fetcher.gives c.args.self.now.fetcher.now) (g.F.Fetcher.follows c.args.self.now.fetcher.now) (g.C.Clock.reads c.args.self.now.clock.now)) (authority_of c.args.url.now) c.now.result c.args.newcomers.now c.begin_stale.new.newcomers c.args.desk.now
-    c.begin_stale.new.desk c.now.ensures (subst P c.in-Ok-None.field-0-is c.in-Ok-None.ensures.step)
-
-pub returns-in-Err-LogFull-clause-sees : goal.returns-in-Err-LogFull-clause-sees
-returns-in-Err-LogFull-clause-sees g c =
-    let P : BeginRefusal → Type 0 = λ why. BeginsSomewhere (authority_of c.args.url.now) c.now.result c.args.newcomers.now (Err why)
-    c.begin_stale.new.newcomers c.args.desk.now c.begin_stale.new.desk in
-    turn_refused (world_of (g.F.Fetcher.gives c.args.self.now.fetcher.now) (g.F.Fetcher.follows c.args.self.now.fetcher.now) (g.C.Clock.reads c.args.self.now.clock.now)) (authority_of c.args.url.now) c.now.result c.args.newcomers.now c.begin_stale.new.newcomers begin.LogFull refusals.LogFull
-    c.args.desk.now c.begin_stale.new.desk (λ before told. told.1) c.now.ensures (subst P c.in-Err-LogFull.field-0-is c.in-Err-LogFull.ensures.step)
-
-pub returns-in-Err-AuthoritiesFull-clause-sees : goal.returns-in-Err-AuthoritiesFull-clause-sees
-returns-in-Err-AuthoritiesFull-clause-sees g c =
-    let P : BeginRefusal → Type 0 = λ why. BeginsSomewhere (authority_of c.args.url.now) c.now.result c.args.newcomers.now (Err why)
-    c.begin_stale.new.newcomers c.args.desk.now c.begin_stale.new.desk in
-    turn_refused (world_of (g.F.Fetcher.gives c.args.self.now.fetcher.now) (g.F.Fetcher.follows c.args.self.now.fetcher.now) (g.C.Clock.reads c.args.self.now.clock.now)) (authority_of c.args.url.now) c.now.result c.args.newcomers.now c.begin_stale.new.newcomers begin.AuthoritiesFull refusals.AuthoritiesFull
-    c.args.desk.now c.begin_stale.new.desk (λ before told. told.1) c.now.ensures (subst P c.in-Err-AuthoritiesFull.field-0-is c.in-Err-AuthoritiesFull.ensures.step)
-
-pub returns-in-Err-NoMemory-clause-sees : goal.returns-in-Err-NoMemory-clause-sees
-returns-in-Err-NoMemory-clause-sees g c =
-    let P : BeginRefusal → Type 0 = λ why. BeginsSomewhere (authority_of c.args.url.now) c.now.result c.args.newcomers.now (Err why)
-    c.begin_stale.new.newcomers c.args.desk.now c.begin_stale.new.desk in
-    turn_refused (world_of (g.F.Fetcher.gives c.args.self.now.fetcher.now) (g.F.Fetcher.follows c.args.self.now.fetcher.now) (g.C.Clock.reads c.args.self.now.clock.now)) (authority_of c.args.url.now) c.now.result c.args.newcomers.now c.begin_stale.new.newcomers begin.NoMemory refusals.NoMemory
-    c.args.desk.now c.begin_stale.new.desk (λ before told. tt) c.now.ensures (subst P c.in-Err-NoMemory.field-0-is c.in-Err-NoMemory.ensures.step)
-
-pub returns-in-Err-InFlight-clause-sees : goal.returns-in-Err-InFlight-clause-sees
-returns-in-Err-InFlight-clause-sees g c =
-    let P : BeginRefusal → Type 0 = λ why. BeginsSomewhere (authority_of c.args.url.now) c.now.result c.args.newcomers.now (Err why)
-    c.begin_stale.new.newcomers c.args.desk.now c.begin_stale.new.desk in
-    awaited (world_of (g.F.Fetcher.gives c.args.self.now.fetcher.now) (g.F.Fetcher.follows c.args.self.now.fetcher.now) (g.C.Clock.reads c.args.self.now.clock.now)) (authority_of c.args.url.now) _ c.now.result _ c.args.newcomers.now
-    c.begin_stale.new.newcomers _ c.args.desk.now c.begin_stale.new.desk c.wait_answer.new.self
-    c.now.ensures (subst P c.in-Err-InFlight.field-0-is c.in-Err-InFlight.ensures.step) c.wait_answer.ensures.step
+    awaited (MayRefresh world (authority_of c.args.url.now)) _ _ _ c.args.desk.now c.find_answer.new.desk c.wait_answer.new.self
+    c.in-Ok-InFlight.ensures.refreshed c.wait_answer.ensures.step

@@ -3,7 +3,6 @@ use Rattle.std.proofs.Common.{◌≡◌, ◌∙◌, ℕ, ap, inl, inr, subst}
 use Rattle.gate_history.specs.declared.outcome.Reason.{Reason}
 use Rattle.gate_lock.specs.Desks.{Pass}
 use Rattle.gate_lock.specs.Steps.{DeskFinishes, Somewhere}
-use Rattle.page_worker.specs.Limits.{page_limit}
 use Rattle.page_worker.specs.Visits.{visit_of}
 use Rattle.page_worker.proofs.worker.Worker.visit_granted.Goals as goal
 
@@ -29,7 +28,7 @@ returns-clause-spends g c =
     let P : ℕ → Type 0 = λ n. c.of.result ≡ visit_of n c.reason-reason.result given failure in
     let Q : Reason → Type 0 = λ reason. c.of.result ≡ visit_of permit.number reason given failure in
     let S : Pass → Type 0 = λ p. Somewhere c.start.new.self (λ before behind. DeskFinishes c.start.new.self before p.number behind c.finish.new.self) in
-    let T : Pass → Type 0 = λ p. g.F.Fetcher.gives c.args.self.now.fetcher.now page_limit p.url given in
+    let T : Pass → Type 0 = λ p. (g.F.Fetcher.gives c.args.self.now.fetcher.now).holds (g.F.Fetcher.gives c.args.self.now.fetcher.now).page_limit p.url given in
     inr (record {
       run = run;
       moment = c.now.result;

@@ -1,0 +1,2 @@
+-- Lemmas of what waits to be sent.
+pub mod Pending

@@ -1,0 +1,4 @@
+pub mod Visiting
+pub mod Tabling
+pub mod Entering
+pub mod Digits

@@ -1,0 +1,5 @@
+//! Tests of the doors to sites.
+#![tactic(auto)]
+
+#[cfg(test)]
+mod tests;

@@ -1,0 +1,10 @@
+//! Requests written, and responses read.
+
+mod chunks;
+mod forwarded;
+mod freshness;
+mod limits;
+mod reads;
+mod requests;
+mod responses;
+mod stops;
