@@ -184,6 +184,17 @@ def little_memory_with_a_journal_of_a_second():
     little_memory("--journal-sync", "second")
 
 
+def pages_with_a_limit():
+    """Of a page so many octets are read as --page-limit says: more than without it, or fewer, and the rest is cut."""
+    long = 1_500_000
+    site = open_site({"/robots.txt": response(404), "/long": response(200, b"x" * long)})
+    for words, count, end in (((), 1 << 20, "cut"), (("--page-limit", "2097152"), long, "whole"), (("--page-limit", "100"), 100, "cut")):
+        with Server(*words) as server, Session(server) as it:
+            it.send(f"FETCH foobot {site.url('/long')}\nQUIT\n".encode())
+            same(it.rest(), f"HOP 1 PAGE open 200 {count} {end}\nBODY {count}\n".encode() + b"x" * count + b"\nBYE\n")
+
+
 CASES = [
-    journal_with_room, texts_with_room, client_with_entries, little_memory_with_a_journal, little_memory_with_a_journal_of_a_second,
+    journal_with_room, texts_with_room, pages_with_a_limit, client_with_entries, little_memory_with_a_journal,
+    little_memory_with_a_journal_of_a_second,
 ]
