@@ -17,7 +17,7 @@ def build_site(folder):
 
 @contextlib.contextmanager
 def site_of(folder, octets):
-    """Has a site with pages of so many octets, and gives its authority."""
+    """Has a site with pages of that many octets, and gives its authority."""
     words = [f"{folder}/site", "16", str(octets)]
     process = subprocess.Popen(words, stdout=subprocess.PIPE, text=True)
     try:
@@ -37,7 +37,7 @@ def run(words, given=b""):
 
 
 class Crawl:
-    """So many pages of a site, so many at a time. The options are those of a shift and of curl that its scheme needs."""
+    """That many pages of a site, that many at a time. The options are those of a shift and of curl that its scheme needs."""
 
     def __init__(self, program, folder, site, pages, workers, of_shift=(), of_curl=()):
         self.program, self.folder, self.pages, self.workers = program, folder, pages, workers

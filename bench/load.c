@@ -3,7 +3,7 @@
    usage: load crawlgate PORT CONNECTIONS LANES LOOPS URL
           load redis PORT CONNECTIONS LANES LOOPS -
 
-   Each connection has a thread, and so many lanes; each lane has one request in flight. A lane makes loops: of crawlgate ASK,
+   Each connection has a thread, and that many lanes; each lane has one request in flight. A lane makes loops: of crawlgate ASK,
    START and DONE; of redis SET with NX, and DEL. All connections together make LOOPS of them. What is written is a line:
    requests, seconds, and the nanoseconds in which half of the replies came, and 99 of a hundred. A reply that is not the
    expected one ends the load with status 1. */
@@ -89,7 +89,7 @@ static long now(void)
     return it.tv_sec * 1000000000L + it.tv_nsec;
 }
 
-/* The lane's next request stands behind those that are unsent. */
+/* The lane's next request stands after those that are unsent. */
 static void request(struct connection *it, int at)
 {
     it->length += protocol->request(it->unsent + it->length, it->at, at, &it->lanes[at]);

@@ -6,7 +6,7 @@ def times(text, count):
 
 
 def numbered(line, count):
-    """Returns so many lines, with a number and its rest by 64 in each."""
+    """Returns that many lines, with a number and its rest by 64 in each."""
     return "".join(line.format(at, at % 64) for at in range(count))
 
 

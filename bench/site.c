@@ -1,23 +1,31 @@
-/* A site on the loopback for bench/shift, which costs the machine as little as can be.
+/* A site on the loopback for bench/shift, which costs the machine as little as can be; or very many sites, for
+   bench/fleet.
 
-   usage: site THREADS OCTETS
+   usage: site THREADS OCTETS [RULES]
 
    It writes the port at which it listens. Each thread takes one connection after the other, reads a request up to its
-   empty line, answers it, 404 for /robots.txt and a page of so many octets for each other target, and closes. */
+   empty line, answers it, 404 for /robots.txt and a page of that many octets for each other target, and closes.
+
+   With RULES each address that begins with 127 is a site, whose robots.txt has that many rules, the first of which denies
+   /private/, and names the address. At the end of its input it writes how many robots.txt files, pages, and pages below
+   /private/ it was asked for. */
 #include <arpa/inet.h>
 #include <pthread.h>
+#include <stdatomic.h>
 #include <stdio.h>
 #include <stdlib.h>
 #include <string.h>
 #include <sys/socket.h>
 #include <unistd.h>
 
-enum { REQUEST = 16384 };
+enum { REQUEST = 16384, ROBOTS = 65536 };
 
 static const char missing[] = "HTTP/1.1 404 None\r\nContent-Length: 0\r\nConnection: close\r\n\r\n";
 static int listener;
 static char *page;
 static size_t length;
+static int rules;
+static atomic_long robots_count, page_count, denied_count;
 
 static void stop(const char *what)
 {
@@ -25,21 +33,23 @@ static void stop(const char *what)
     exit(1);
 }
 
-static void answer(int peer)
+/* Reads a request up to its empty line, and returns whether one has come. */
+static int read_request(int peer, char *request)
 {
-    char request[REQUEST + 1];
     size_t count = 0;
     request[0] = 0;
     while (!strstr(request, "\r\n\r\n") && count < REQUEST) {
         ssize_t got = recv(peer, request + count, REQUEST - count, 0);
         if (got <= 0)
-            return;
+            return 0;
         count += got;
         request[count] = 0;
     }
-    int is_robots = !strncmp(request, "GET /robots.txt ", 16);
-    const char *said = is_robots ? missing : page;
-    size_t left = is_robots ? sizeof missing - 1 : length;
+    return 1;
+}
+
+static void send_all(int peer, const char *said, size_t left)
+{
     while (left) {
         ssize_t sent = send(peer, said, left, MSG_NOSIGNAL);
         if (sent <= 0)
@@ -49,42 +59,96 @@ static void answer(int peer)
     }
 }
 
+/* Returns the address to which the peer has connected. */
+static struct in_addr own_address(int peer)
+{
+    struct sockaddr_in own = {0};
+    socklen_t size = sizeof own;
+    getsockname(peer, (void *)&own, &size);
+    return own.sin_addr;
+}
+
+static void send_rules(int peer)
+{
+    char name[INET_ADDRSTRLEN], body[ROBOTS], said[ROBOTS + 128];
+    struct in_addr own = own_address(peer);
+    inet_ntop(AF_INET, &own, name, sizeof name);
+    int at = sprintf(body, "# %s\nUser-agent: *\nDisallow: /private/\n", name);
+    for (int rule = 1; rule < rules && at < ROBOTS - 64; rule++)
+        at += sprintf(body + at, "Disallow: /part%d/page\n", rule);
+    int length = sprintf(said, "HTTP/1.1 200 OK\r\nContent-Length: %d\r\nConnection: close\r\n\r\n%s", at, body);
+    send_all(peer, said, length);
+}
+
+static void answer(int peer)
+{
+    char request[REQUEST + 1];
+    if (!read_request(peer, request))
+        return;
+    if (!strncmp(request, "GET /robots.txt ", 16)) {
+        robots_count++;
+        if (rules)
+            send_rules(peer);
+        else
+            send_all(peer, missing, sizeof missing - 1);
+        return;
+    }
+    page_count++;
+    denied_count += !strncmp(request, "GET /private/", 13);
+    send_all(peer, page, length);
+}
+
 static void *serve(void *none)
 {
     for (;;) {
         int peer = accept(listener, 0, 0);
         if (peer < 0)
             continue;
-        answer(peer);
+        /* (nobody on another machine is answered) */
+        if (ntohl(own_address(peer).s_addr) >> 24 == 127)
+            answer(peer);
         close(peer);
     }
     return none;
 }
 
-int main(int count, char **words)
+static void make_page(size_t octets)
 {
-    struct sockaddr_in address = {.sin_family = AF_INET, .sin_addr.s_addr = htonl(INADDR_LOOPBACK)};
-    socklen_t size = sizeof address;
-    if (count != 3)
-        return 2;
-    int threads = atoi(words[1]);
-    size_t octets = strtoul(words[2], 0, 10);
     page = calloc(1, octets + 128);
     if (!page)
         stop("calloc");
     length = sprintf(page, "HTTP/1.1 200 OK\r\nContent-Length: %zu\r\nConnection: close\r\n\r\n", octets);
     memset(page + length, 'x', octets);
     length += octets;
+}
+
+static void open_listener(in_addr_t host)
+{
+    struct sockaddr_in address = {.sin_family = AF_INET, .sin_addr.s_addr = htonl(host)};
+    socklen_t size = sizeof address;
     listener = socket(AF_INET, SOCK_STREAM, 0);
-    if (listener < 0 || bind(listener, (void *)&address, size) || listen(listener, 1024))
+    if (listener < 0 || bind(listener, (void *)&address, size) || listen(listener, 4096))
         stop("listen");
     getsockname(listener, (void *)&address, &size);
     printf("%d\n", ntohs(address.sin_port));
     fflush(stdout);
-    for (int at = 1; at < threads; at++) {
+}
+
+int main(int count, char **words)
+{
+    if (count != 3 && count != 4)
+        return 2;
+    rules = count == 4 ? atoi(words[3]) : 0;
+    make_page(strtoul(words[2], 0, 10));
+    open_listener(rules ? INADDR_ANY : INADDR_LOOPBACK);
+    for (int at = rules ? 0 : 1; at < atoi(words[1]); at++) {
         pthread_t thread;
         if (pthread_create(&thread, 0, serve, 0))
             stop("pthread_create");
     }
-    serve(0);
+    if (!rules)
+        serve(0);
+    while (getchar() != EOF)
+        ;
+    printf("%ld %ld %ld\n", robots_count, page_count, denied_count);
 }

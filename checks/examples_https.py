@@ -10,9 +10,9 @@ import tempfile
 
 from lib import tls
 from lib.cases import Skipped, same
-from lib.example_sites import Sites, archive, check_folder, crawl, in_folder, jobs_of
+from lib.example_sites import Sites, archive, check_pages, crawl, in_folder, jobs_of
 from lib.program import ROOT
-from lib.server import SECONDS, Server
+from lib.server import SECONDS, HttpServer, Server
 
 CLIENTS = f"{ROOT}/examples/clients"
 # a program that fetches pages by permits, and writes what came of each
@@ -38,12 +38,12 @@ class Https:
         self.folder, self.address, self.sites = folder, address, sites
         self.authority_file = f"{folder}/ca.pem"
 
-    def server(self):
-        return Server("--tls-by", self.address)
+    def server(self, *words):
+        return HttpServer("--tls-by", self.address, *words)
 
 
 def over_https(count):
-    """Makes a case that has so many sites of https."""
+    """Makes a case that has that many sites of https."""
 
     def made(case):
         @functools.wraps(case)
@@ -71,8 +71,8 @@ def ran(words, **environment):
 
 @over_https(1)
 def permits_over_https(https):
-    """The Python client opens a page by a permit, with the authority that SSL_CERT_FILE names, and follows no redirect. It
-    opens none where it does not know that authority. A URL is opened as the gate writes it."""
+    """The Python client opens a page by a permit, with the authority that SSL_CERT_FILE names, and follows no redirect.
+    It opens none where it does not know that authority. A URL is opened as the gate writes it."""
     paths = ["/", "/docs", "/private/letters.html"]
     with https.server() as server:
         page, moved, private = map(https.sites.url, paths)
@@ -94,22 +94,26 @@ def size_of(path):
 @over_https(1)
 def clients_fetch_over_https(https):
     """Both clients have the gate fetch a page, to which a redirect leads, and one that is denied."""
-    programs = [[sys.executable, f"{CLIENTS}/crawlgate.py"], ["bash", f"{CLIENTS}/crawlgate.sh"]]
     with open(f"{ROOT}/examples/site/docs/index.html") as file:
         text = file.read()
     with https.server() as server:
-        for program, *before in programs:
-            words = [program, *before, str(server.port)] + ["fetch"] * (program == "bash") + ["foobot"]
-            page = f"PAGE norule 301 0 whole\nPAGE norule 200 {len(text)} whole\n"
-            same(ran([*words, https.sites.url("/docs")]), (text, page, 0))
-            denied = f"NO https://{https.sites.authorities[0]} line 2\n"
-            same(ran([*words, https.sites.url("/private/letters.html")]), ("", denied, 1))
+        words = [sys.executable, f"{CLIENTS}/crawlgate.py", str(server.port), "foobot"]
+        page = f"PAGE norule 301 0 whole\nPAGE norule 200 {len(text)} whole\n"
+        same(ran([*words, https.sites.url("/docs")]), (text, page, 0))
+        denied = f"https://{https.sites.authorities[0]} line 2"
+        same(ran([*words, https.sites.url("/private/letters.html")]), ("", f"NO {denied}\n", 1))
+        words = ["bash", f"{CLIENTS}/crawlgate.sh", server.front, "fetch", "foobot"]
+        said, told, status = ran([*words, https.sites.url("/docs")])
+        same((said, re.findall(r"^received-status=(\d+); ", told, re.M), status), (text, ["301", "200"], 0))
+        denied = f'error=http_request_denied; details="{denied}"\n'
+        same(ran([*words, https.sites.url("/private/letters.html")]), ("", denied, 1))
     same(https.sites.asked, ["/robots.txt"] + ["/docs", "/docs/"] * 2)
 
 
 @over_https(1)
 def shell_client_over_https(https):
-    """The shell client runs a command by a permit, with the URL as the gate writes it; curl is one, where it is installed."""
+    """The shell client runs a command by a permit, with the URL as the gate writes it; curl is one, where it is
+    installed."""
     page = https.sites.url("/")
     with https.server() as server:
         words = ["bash", f"{CLIENTS}/crawlgate.sh", str(server.port), "run", "foobot"]
@@ -127,17 +131,16 @@ def shell_client_over_https(https):
 
 @over_https(2)
 def archive_over_https(https):
-    """An archive of two sites of https and one of http: each page has a start in the segments, which are audited as those of
-    https."""
-    paths = ["/", "/docs", "/private/letters.html", "/trap"]
-    folder = f"{https.folder}/archive"
-    with Sites() as plain, https.server() as server:
+    """An archive of two sites of https and one of http: each page has a start in the journal, which is audited as one
+    of https."""
+    paths = ["/", "/docs/", "/private/letters.html", "/trap"]
+    folder, journal = f"{https.folder}/archive", f"{https.folder}/journal"
+    with Sites() as plain, https.server("--journal", journal) as server:
         urls = [https.sites.url(path, at) for path in paths for at in (0, 1)] + [plain.url("/")]
         denied = [f"{url}: NO {url[: url.index('/private')]} line 2\n" for url in urls[4:6]]
-        same(archive(server, folder, urls, "--every", "0"), ("pages 7 segments 9\n", "".join(denied), 0))
-    found = [(fields["WARC-Target-URI"], status) for fields, status, _ in check_folder(folder, "--https")]
-    wanted = [https.sites.url(path, at) for path in ("/", "/docs/", "/trap") for at in (0, 1)] + [plain.url("/")]
-    same(found, [(url, 200) for url in wanted])
+        same(archive(server, folder, urls), ("pages 7\n", "".join(denied), 0))
+        found = [(it.fields["WARC-Target-URI"], it.status) for it in check_pages(folder, journal, "--https")]
+    same(found, [(url, 200) for url in urls[:4] + urls[6:]])
 
 
 @over_https(6)
@@ -170,7 +173,10 @@ def parts_of(folder):
 @in_folder
 def parts_of_https_by_site(folder):
     """Sites of https come into different parts, and what names the same site into one. Nothing is fetched."""
-    one = ["https://a.example:443/x", "https://a.example/y", "HTTPS://A.Example:/z", "https://a.example?q", "https://a.example"]
+    one = [
+        "https://a.example:443/x", "https://a.example/y", "HTTPS://A.Example:/z", "https://a.example?q",
+        "https://a.example",
+    ]
     other = ["https://b.example/x", "https://c.example/x", "https://a.example:8443/x"]
     given = "".join(f"foobot {url}\n" for url in one + other)
     same(crawl(given, "report", "1000", folder, program=shutil.which("true"))[1], 0)

@@ -1,10 +1,10 @@
-"""Where responses end over https. A program that opens TLS ends its connection alike where TLS was ended and where somebody cut
-it, so a response that nothing else ends is no response (RFC 9112, sections 8 and 9.8)."""
+"""Where responses end over https. A program that opens TLS ends its connection alike where TLS was ended and where
+somebody cut it, so a response that nothing else ends is no response (RFC 9112, sections 8 and 9.8)."""
 import asyncio
 import contextlib
 
 from lib.sites import reset
-from loopback import PAGE, Site, crawl, whole
+from loopback import PAGE, AsyncSite, crawl, whole
 
 RULES = b"user-agent: *\ndisallow: /private\n"
 OPEN_ENDED = b"HTTP/1.1 200 OK\r\n\r\n" + RULES
@@ -13,7 +13,7 @@ LONG = b"HTTP/1.1 200 OK\r\n\r\n" + RULES + b"#" * 512_001
 ALLOWED, DENIED = ("PAGE", "200", "5", "norule"), ("NO", "", "", "line 2")
 CLOSED, RESET = ("NO", "", "", "robots: ended early"), ("NO", "", "", "robots: reset")
 CUT = ("FAULT", "", "", "ended early")
-# a name, a robots.txt, whether the connection is reset behind it, a page, and what the table says of /x and of /private
+# a name, a robots.txt, whether the connection is reset after it, a page, and what the table says of /x and of /private
 ENDS = [
     ("neither length nor chunks", OPEN_ENDED, False, PAGE, (CLOSED, CLOSED)),
     ("neither, and a reset", OPEN_ENDED, True, PAGE, (RESET, RESET)),
@@ -31,8 +31,8 @@ ENDS = [
 
 
 class Ender:
-    """What takes the place of a program that opens TLS: the last octet of the address in the header says which row of ENDS it
-    answers by."""
+    """What takes the place of a program that opens TLS: the last octet of the address in the header says which row of
+    ENDS it answers by."""
 
     async def serve(self, reader, writer):
         with contextlib.suppress(OSError, asyncio.IncompleteReadError):
@@ -57,13 +57,13 @@ def told(text):
 
 
 async def https_ends():
-    """Over https the end of a connection ends no response: a site whose robots.txt has neither a length nor chunks is closed,
-    and over http its rules are read. What is not cut, and what is over the limit, is read over both."""
+    """Over https the end of a connection ends no response: a site whose robots.txt has neither a length nor chunks is
+    closed, and over http its rules are read. What is not cut, and what is over the limit, is read over both."""
     server = await asyncio.start_server(Ender().serve, "127.0.0.1", 0)
     opener = "127.0.0.1:%d" % server.sockets[0].getsockname()[1]
     jobs, wanted = [], []
     for at, (_, _, _, _, ends) in enumerate(ENDS):
-        site = Site(None)
+        site = AsyncSite(None)
         site.scheme, site.address, site.server = "https", f"192.0.2.{at}", server
         jobs += [(site, "/x"), (site, "/private")]
         wanted += ends
@@ -74,7 +74,7 @@ async def https_ends():
     for name, it, end in differ:
         print("  differs:", name, it, end)
     assert len(found) == len(wanted), found
-    plain = Site(open_ended)
+    plain = AsyncSite(open_ended)
     await plain.listen()
     over_http = told((await crawl(["--tsv"], [(plain, "/x"), (plain, "/private")]))[0])
     assert over_http == [ALLOWED, DENIED], over_http

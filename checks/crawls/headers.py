@@ -1,11 +1,11 @@
-"""What is written to a program that opens TLS, octet by octet: which headers it takes and which it refuses. No crawl is in it;
-it shows that the stand-in is as strict as haproxy with the configuration that is shipped."""
+"""What is written to a program that opens TLS, octet by octet: which headers it takes and which it refuses. No crawl is
+in it; it shows that the stand-in is as strict as haproxy with the configuration that is shipped."""
 import asyncio
 import contextlib
 import socket
 import struct
 
-from loopback import PAGE, Replies, Site
+from loopback import PAGE, AsyncSite, Replies
 
 SIGNATURE = bytes([13, 10, 13, 10, 0, 13, 10, 81, 85, 73, 84, 10])
 REQUEST = b"GET /page HTTP/1.1\r\nHost: localhost\r\nConnection: close\r\n\r\n"
@@ -21,7 +21,8 @@ NAME = field(AUTHORITY, b"localhost")
 
 
 def header(port, address="127.0.0.1", fields=NAME, signature=SIGNATURE, command=0x21, family=None):
-    """Returns a header as the PROXY protocol, version 2, has it in sections 2.2 and 2.2.2, but for what is given otherwise."""
+    """Returns a header as the PROXY protocol, version 2, has it in sections 2.2 and 2.2.2, but for what is given
+    otherwise."""
     is_six = ":" in address
     octets = socket.inet_pton(socket.AF_INET6 if is_six else socket.AF_INET, address)
     rest = octets + octets + struct.pack("!HH", port, port) + fields
@@ -54,7 +55,7 @@ def refused(port):
 
 
 async def reply_to(address, octets):
-    """Returns what comes for a header with a request behind it."""
+    """Returns what comes for a header with a request after it."""
     host, port = address.split(":")
     reader, writer = await asyncio.open_connection(host, int(port))
     with contextlib.closing(writer), contextlib.suppress(ConnectionError):
@@ -64,12 +65,13 @@ async def reply_to(address, octets):
 
 
 async def https_headers(opener, folder, contexts):
-    """A good header has the page for a reply. What is none ends the connection with no octet, and the site sees nothing."""
+    """A good header has the page for a reply. What is none ends the connection with no octet, and the site sees
+    nothing."""
     sites = []
     for address in ("127.0.0.1", "::1"):
         # (some machines have no address of version 6)
         with contextlib.suppress(OSError):
-            sites.append((address, Site(Replies(PAGE, PAGE))))
+            sites.append((address, AsyncSite(Replies(PAGE, PAGE))))
             await sites[-1][1].listen(address, context=contexts["good"])
     sites = [(address, site) for address, site in sites if hasattr(site, "port")]
     tried = [("good", header(site.port, address), PAGE, site) for address, site in sites]

@@ -1,5 +1,5 @@
-"""Crawls of https, by way of each program that opens TLS: the stand-in, and haproxy with the configuration that is shipped, but
-for its port and its authorities, where it is installed. Both have the same sites and the same lines of a table."""
+"""Crawls of https, by way of each program that opens TLS: the stand-in, and haproxy with the configuration that is
+shipped, but for its port and its authorities, where it is installed. Both have the same sites and lines of a table."""
 import asyncio
 import contextlib
 import socket
@@ -11,7 +11,7 @@ from lib import tls
 from lib.cases import Skipped
 from lib.sites import reset
 from ends import https_ends
-from loopback import NO_ROBOTS, PAGE, Replies, Site, answer, crawl, redirect, whole
+from loopback import NO_ROBOTS, PAGE, AsyncSite, Replies, answer, crawl, redirect, whole
 
 # what the table says of a job: outcome, status, octets, cause
 GOOD = ("PAGE", "200", "5", "norule")
@@ -24,7 +24,9 @@ LARGE = 300_000
 LINES = "lines of a table of https"
 RULES, DENY_ALL = (whole(b"user-agent: *\ndisallow: %s\n" % path) for path in (b"/private", b"/"))
 # starts a program under another /etc/hosts that nobody else sees, which needs no rights but those to make a namespace
-UNDER_HOSTS = ["unshare", "--map-root-user", "--mount", "sh", "-c", 'mount --bind "$1" /etc/hosts && shift && exec "$@"', "sh"]
+UNDER_HOSTS = [
+    "unshare", "--map-root-user", "--mount", "sh", "-c", 'mount --bind "$1" /etc/hosts && shift && exec "$@"', "sh",
+]
 
 
 def moved(hop):
@@ -51,7 +53,7 @@ class Moved:
         writer.write(redirect(f"{self.to.scheme}://{self.to.address}{target}".encode()))
 
 
-class Mute(Site):
+class Mute(AsyncSite):
     """A site that takes connections and never answers what opens TLS."""
 
     async def serve(self, reader, writer):
@@ -62,11 +64,11 @@ class Mute(Site):
 
 
 class TwoSchemes:
-    """A site of http and one of https at one port, so that their authorities differ in nothing but the scheme. What begins
-    as TLS does goes to the latter."""
+    """A site of http and one of https at one port, so that their authorities differ in nothing but the scheme. What
+    begins as TLS does goes to the latter."""
 
     def __init__(self, plain, secure, context):
-        self.sites = {"http": Site(plain), "https": Site(secure)}
+        self.sites = {"http": AsyncSite(plain), "https": AsyncSite(secure)}
         self.context = context
 
     def listen(self):
@@ -119,8 +121,8 @@ async def table_of(ends, opener, folder, before=()):
 
 
 def through(opener, *names):
-    """Makes a crawl of a case: by this program that opens TLS, with certificates in a folder of its own. It is skipped where
-    a program of these names is missing."""
+    """Makes a crawl of a case: by this program that opens TLS, with certificates in a folder of its own. It is skipped
+    where a program of these names is missing."""
 
     def made(case, what):
         async def crawled():
@@ -145,16 +147,19 @@ async def take_one(listener):
 
 
 async def https_opener_gone():
-    """What opens TLS is gone once the crawl has begun: the site of https is closed, and that of http is crawled. A name that
-    nobody has is told before it is missed."""
-    secure, nowhere, plain = Site(answer), Site(answer), Site(answer)
+    """What opens TLS is gone once the crawl has begun: the site of https is closed, and that of http is crawled. A name
+    that nobody has is reported before it is missed."""
+    secure, nowhere, plain = AsyncSite(answer), AsyncSite(answer), AsyncSite(answer)
     await plain.listen()
     for site, address in (secure, "localhost:1"), (nowhere, "a" * 64 + ".invalid"):
         site.scheme, site.address, site.server = "https", address, plain.server
     listener = socket.create_server(("127.0.0.1", 0))
     listener.setblocking(False)
     words = ["--tsv", "--tls-by", f"127.0.0.1:{listener.getsockname()[1]}"]
-    ends = [(secure, "/x", ("NO", "", "", "robots: no TLS program")), (nowhere, "/x", ("NO", "", "", "robots: no such name"))]
+    ends = [
+        (secure, "/x", ("NO", "", "", "robots: no TLS program")),
+        (nowhere, "/x", ("NO", "", "", "robots: no such name")),
+    ]
     ends += [(plain, "/x", OPEN), (plain, "/y", OPEN)]
     jobs = [(site, target) for site, target, _ in ends]
     text, _, _ = await crawl(words, jobs, meanwhile=asyncio.wait_for(take_one(listener), 10))
@@ -162,10 +167,10 @@ async def https_opener_gone():
     return f"of {count} {LINES}, those that differ", differ, 0
 
 
-# what a program does with the request for a page, by the last octet of the page's address, and what is told of it
+# what a program does with the request for a page, by the last octet of the page's address, and what is reported of it
 SCRIPTS = {
     1: (PAGE, OPEN),
-    # an end behind one octet, and what is no HTTP
+    # an end after one octet, and what is no HTTP
     2: (b"H", CUT),
     3: (b"220 mail.a.example ESMTP\r\n\r\n", ("FAULT", "", "", "bad head")),
     # the end of the connection, a reset, and nothing
@@ -176,8 +181,8 @@ SCRIPTS = {
 
 
 class Opener:
-    """What takes the place of a program that opens TLS, and connects to nobody: it answers by its scripts, and keeps what it
-    was sent."""
+    """What takes the place of a program that opens TLS, and connects to nobody: it answers by its scripts, and keeps
+    what it was sent."""
 
     def __init__(self):
         self.seen = []
@@ -200,27 +205,33 @@ class Opener:
 
 
 def secure_site(address, server):
-    site = Site(answer)
+    site = AsyncSite(answer)
     site.scheme, site.address, site.server = "https", address, server
     return site
 
 
 def sent(address, port, target, agent):
-    """Returns what is sent for a page of an address of IPv4: the header of the PROXY protocol, version 2, sections 2.2 and
-    2.2.2, and the request."""
+    """Returns what is sent for a page of an address of IPv4: the header of the PROXY protocol, version 2, sections 2.2
+    and 2.2.2, and the request."""
     name = address.encode()
     octets = socket.inet_aton(address) * 2 + port.to_bytes(2, "big") * 2 + b"\x02" + len(name).to_bytes(2, "big") + name
     host = address if port == 443 else f"{address}:{port}"
-    fields = [f"GET {target} HTTP/1.1", f"Host: {host}", f"User-Agent: {agent}", "Accept: */*", "Accept-Encoding: identity", "Connection: close", "", ""]
+    fields = [
+        f"GET {target} HTTP/1.1", f"Host: {host}", f"User-Agent: {agent}", "Accept: */*", "Accept-Encoding: identity",
+        "Connection: close", "", "",
+    ]
     return b"\r\n\r\n\0\r\nQUIT\n\x21\x11" + len(octets).to_bytes(2, "big") + octets, "\r\n".join(fields).encode()
 
 
 async def https_by_scripts():
-    """How each way in which a program that opens TLS ends a connection is told, and all that it was sent. With --public nothing
-    is sent for a page of this machine."""
+    """How each way in which a program that opens TLS ends a connection is told, and all that it was sent. With --public
+    nothing is sent for a page of this machine."""
     opener = Opener()
     server = await asyncio.start_server(opener.serve, "127.0.0.1", 0)
-    words = ["--tsv", "--workers", "16", "--read-timeout", "2", "--tls-by", "127.0.0.1:%d" % server.sockets[0].getsockname()[1]]
+    words = [
+        "--tsv", "--workers", "16", "--read-timeout", "2", "--tls-by",
+        "127.0.0.1:%d" % server.sockets[0].getsockname()[1],
+    ]
     sites = [secure_site(f"192.0.2.{it}", server) for it in SCRIPTS] + [secure_site("192.0.2.1:8443", server)]
     ends = [(site, "/x?q", told) for site, (_, told) in zip(sites, [*SCRIPTS.values(), SCRIPTS[1]])]
     kept, server.close = server.close, lambda: None
@@ -230,7 +241,8 @@ async def https_by_scripts():
     wanted = [sent(*place, *it) for place in places for it in (("/robots.txt", "crawlgate"), ("/x?q", "foobot"))]
     assert sorted(opener.seen) == sorted(wanted), opener.seen
     opener.seen.clear()
-    near = [(secure_site(address, server), "/x", ("NO", "", "", "robots: unreachable")) for address in ("127.0.0.1", "[::1]:8443")]
+    here = ("127.0.0.1", "[::1]:8443")
+    near = [(secure_site(it, server), "/x", ("NO", "", "", "robots: unreachable")) for it in here]
     text, _, _ = await crawl([*words, "--public"], [(site, target) for site, target, _ in near])
     kept()
     more, others = differing(text, near)
@@ -238,7 +250,7 @@ async def https_by_scripts():
     return f"of {count + more} {LINES}, those that differ", differ + others, 0
 
 
-async def site_of(behave, context=None, kind=Site):
+async def site_of(behave, context=None, kind=AsyncSite):
     """A site of 127.0.0.1 that is called localhost. Where that has another address too, nobody listens there."""
     site = kind(behave)
     await site.listen(context=context, name="localhost")
@@ -246,8 +258,8 @@ async def site_of(behave, context=None, kind=Site):
 
 
 async def https(opener, folder, contexts):
-    """Certificates that are good and bad, TLS that is too old, and sites that are silent or gone. No site saw a request whose
-    certificate or whose TLS is bad."""
+    """Certificates that are good and bad, TLS that is too old, and sites that are silent or gone. No site saw a request
+    whose certificate or whose TLS is bad."""
     good = await site_of(Replies(RULES, PAGE), contexts["good"])
     bad = [await site_of(Replies(RULES, PAGE), context) for kind, context in contexts.items() if kind != "good"]
     bad.append(await site_of(Replies(RULES, PAGE), tls.old_context(folder)))
@@ -265,14 +277,16 @@ async def https(opener, folder, contexts):
 
 
 async def https_pages(opener, folder, contexts):
-    """A large page, pages that break off, with TLS's own end and without, and pages that lead from one scheme to the other."""
+    """A large page, pages that break off, with TLS's own end and without, and pages that lead to the other scheme."""
     page = b"HTTP/1.1 200 OK\r\nContent-Length: %d\r\n\r\n" % LARGE + bytes(LARGE)
     large = await site_of(Replies(NO_ROBOTS, page), contexts["good"])
     cut = [await site_of(kind(NO_ROBOTS, PAGE[:-2]), contexts["good"]) for kind in (Replies, Ended)]
     targets = [await site_of(answer), await site_of(answer, contexts["good"])]
     shut = await site_of(Replies(DENY_ALL, PAGE), contexts["good"])
     leads = [redirect(f"{it.scheme}://{it.address}/from-other".encode()) for it in [*targets, shut]]
-    secure, plain = await site_of(Replies(NO_ROBOTS, leads[0]), contexts["good"]), await site_of(Replies(NO_ROBOTS, leads[1]))
+    secure, plain = await site_of(
+        Replies(NO_ROBOTS, leads[0]), contexts["good"],
+    ), await site_of(Replies(NO_ROBOTS, leads[1]))
     # (its page leads to one that is denied; and a robots.txt of https leads to one of http, which is none)
     denied = await site_of(Replies(NO_ROBOTS, leads[2]))
     led = await site_of(Replies(redirect(f"http://{targets[0].address}/robots.txt".encode()), PAGE), contexts["good"])
@@ -289,8 +303,9 @@ async def https_pages(opener, folder, contexts):
 
 
 async def https_moved(opener, folder, contexts):
-    """A site of http that has moved to https, its robots.txt and each page. Its file is fetched once, and leads to that of
-    https, which is fetched once more when its own pages come. Rules behind the redirect are those of the site of http too."""
+    """A site of http that has moved to https, its robots.txt and each page. Its file is fetched once, and leads to that
+    of https, which is fetched once more when its own pages come. Rules behind the redirect are those of the site of
+    http too."""
     secure = await site_of(Replies(RULES, PAGE), contexts["good"])
     plain = await site_of(Moved(secure))
     targets = ["/", "/a", "/b?c=d"]
@@ -302,8 +317,8 @@ async def https_moved(opener, folder, contexts):
 
 
 async def https_apart(opener, folder, contexts):
-    """Two hosts, each of both schemes at one port: the robots.txt of one scheme allows, and that of the other denies. Each
-    page is decided by the file of its own scheme."""
+    """Two hosts, each of both schemes at one port: the robots.txt of one scheme allows, and that of the other denies.
+    Each page is decided by the file of its own scheme."""
     files = [(NO_ROBOTS, DENY_ALL), (DENY_ALL, NO_ROBOTS)]
     hosts = [TwoSchemes(Replies(it, PAGE), Replies(other, PAGE), contexts["good"]) for it, other in files]
     for host in hosts:
@@ -342,8 +357,8 @@ async def held(address, port):
 
 
 async def https_two_addresses(opener, folder, contexts):
-    """A name with two addresses, by a hosts file that the program alone sees: at one of them nobody listens, the first or the
-    second, whichever the system tries first; or there is another certificate, and no request comes there."""
+    """A name with two addresses, by a hosts file that only the program sees: at one of them nobody listens, the first
+    or the second, whichever the system tries first; or there is another certificate, and no request comes there."""
     hosts = f"{folder}/hosts"
     with open(hosts, "w") as file:
         file.write("127.0.0.1 localhost\n" + "".join(f"{it} {tls.TWO}\n" for it in ("127.0.0.1", "127.0.0.9")))
@@ -354,8 +369,10 @@ async def https_two_addresses(opener, folder, contexts):
         able = False
     if not able:
         raise Skipped("no namespace can be made for a hosts file")
-    how, sites, keepers = {"context": contexts["good"], "name": tls.TWO}, [Site(Replies(RULES, PAGE)) for _ in range(4)], []
-    others = [Site(Replies(RULES, PAGE)) for _ in range(2)]
+    how, sites, keepers = {
+        "context": contexts["good"], "name": tls.TWO,
+    }, [AsyncSite(Replies(RULES, PAGE)) for _ in range(4)], []
+    others = [AsyncSite(Replies(RULES, PAGE)) for _ in range(2)]
     addresses = (("127.0.0.1", "127.0.0.9"), ("127.0.0.9", "127.0.0.1"))
     for site, (address, other) in zip(sites[:2], addresses):
         keepers.append(await listen_with(site, address, lambda port, at=other: held(at, port), **how))
@@ -377,4 +394,6 @@ CASES = {
     https_headers: "headers to what opens TLS",
 }
 OPENERS = [through(tls.by_stand_in), through(tls.by_haproxy, "haproxy")]
-CRAWLS = [https_opener_gone, https_by_scripts, https_ends] + [made(case, what) for made in OPENERS for case, what in CASES.items()]
+CRAWLS = [https_opener_gone, https_by_scripts, https_ends] + [
+    made(case, what) for made in OPENERS for case, what in CASES.items()
+]

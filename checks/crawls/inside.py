@@ -1,5 +1,6 @@
 #!/usr/bin/env python3
-"""Crawls of the public internet in a network of their own, where addresses that are none of it lead to a site, and one that is.
+"""Crawls of the public internet in a network of their own, where addresses that are none of it lead to a site, and one
+that is.
 
 usage: inside.py PROGRAM, in a new network, of which it is root. The checks start it so.
 """
@@ -16,7 +17,7 @@ sys.dont_write_bytecode = True
 sys.path.append(os.path.dirname(os.path.dirname(os.path.realpath(__file__))))
 from lib.cases import Skipped
 from lib.server import Server
-from loopback import PAGE, Site, answer, crawl, redirect
+from loopback import PAGE, AsyncSite, answer, crawl, redirect
 
 IN_NETWORK = ["unshare", "--map-root-user", "--net"]
 # addresses of this machine that are of the public internet
@@ -63,7 +64,9 @@ async def be_led(site, writer, target):
 
 async def told(words, site, hosts):
     """Returns what a table says of a page of each host: outcome and cause."""
-    jobs = [(types.SimpleNamespace(scheme="http", address=f"{it}:{site.port}", server=site.server), "/x") for it in hosts]
+    jobs = [
+        (types.SimpleNamespace(scheme="http", address=f"{it}:{site.port}", server=site.server), "/x") for it in hosts
+    ]
     text, _, _ = await crawl(["--tsv", "--workers", "16", "--connect-timeout", "2", *words], jobs)
     rows = sorted((line.split("\t") for line in text.splitlines()[1:]), key=lambda row: int(row[0]))
     return [(row[4], row[8]) for row in rows]
@@ -71,7 +74,7 @@ async def told(words, site, hosts):
 
 async def site_of(behave):
     """A site at each address of this network, of IPv4 too."""
-    site = Site(behave)
+    site = AsyncSite(behave)
     listener = socket.create_server(("::", 0), family=socket.AF_INET6, dualstack_ipv6=True)
     site.port = listener.getsockname()[1]
     site.server = await asyncio.start_server(site.serve, sock=listener)
@@ -103,8 +106,8 @@ async def inside():
 
 
 async def public_inside():
-    """With --public no address is connected to that the registries call not globally reachable, none of this machine, and none
-    that a public site's robots.txt redirects to; a public site is. Without it all of them are."""
+    """With --public no address is connected to that the registries call not globally reachable, none of this machine,
+    and none that a public site's robots.txt redirects to; a public site is. Without it all of them are."""
     for name in IN_NETWORK[0], "ip":
         if not shutil.which(name, path=f"{os.environ.get('PATH', '')}:/usr/sbin:/sbin"):
             raise Skipped(f"there is no {name}")
@@ -120,8 +123,8 @@ async def public_inside():
 
 
 async def ruled_out():
-    """No address of a block that --not-to names is connected to, with or without --public, the blocks of each time that it is
-    there; all others are."""
+    """No address of a block that --not-to names is connected to, with or without --public, the blocks of each time that
+    it is there; all others are."""
     hosts = ["127.0.0.1", "127.9.9.9", "[::ffff:127.0.0.1]", "[::1]"]
     rows = [
         ([], [OPEN] * 4),

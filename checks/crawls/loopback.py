@@ -28,7 +28,7 @@ def redirect(location):
     return b"HTTP/1.1 301 On\r\nLocation: " + location + b"\r\nContent-Length: 0\r\n\r\n"
 
 
-class Site:
+class AsyncSite:
     """A site on a port of its own, the moments at which it was asked for its pages and for all, and by which agents."""
 
     scheme = "http"
@@ -38,7 +38,8 @@ class Site:
         self.moments = []
 
     async def listen(self, host="127.0.0.1", port=0, context=None, name=None):
-        """With a context of TLS it is a site of https. Its URLs have a name, where one is given, in place of the address."""
+        """With a context of TLS it is a site of https. Its URLs have a name, where one is given, in place of the
+        address."""
         self.server = await asyncio.start_server(self.serve, host, port, backlog=512, ssl=context)
         self.port = self.server.sockets[0].getsockname()[1]
         self.address = f"{name or host}:{self.port}"
@@ -70,18 +71,19 @@ class Site:
 
 
 async def sites_of(*behaviours):
-    sites = [Site(it) for it in behaviours]
+    sites = [AsyncSite(it) for it in behaviours]
     for site in sites:
         await site.listen()
     return sites
 
 
 async def crawl(words, jobs, before=(), meanwhile=None):
-    """Does the jobs, and returns the report and the seconds that it took. The words before start the program; what is to
-    happen meanwhile has happened before it is told the jobs."""
+    """Does the jobs, and returns the report and the seconds that it took. The words before start the program; what is
+    to happen meanwhile has happened before it gets the jobs."""
     began = time.monotonic()
     process = await asyncio.create_subprocess_exec(
-        *before, Server.program, "shift", *words, stdin=asyncio.subprocess.PIPE, stdout=asyncio.subprocess.PIPE, stderr=asyncio.subprocess.PIPE
+        *before, Server.program, "shift", *words, stdin=asyncio.subprocess.PIPE, stdout=asyncio.subprocess.PIPE,
+        stderr=asyncio.subprocess.PIPE
     )
     if meanwhile:
         await meanwhile
@@ -164,7 +166,7 @@ async def linger(site, writer, target):
 
 
 async def keep_open(site, writer, target):
-    """A whole page, behind which the connection stays open."""
+    """A whole page, after which the connection stays open."""
     await answer(site, writer, target)
     if target != "/robots.txt":
         await writer.drain()

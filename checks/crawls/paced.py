@@ -15,16 +15,18 @@ def least_pause(sites):
 
 
 async def paced():
-    """With a delay of a second each of two sites is asked once in a second, by four workers: for its robots.txt, and for three
-    pages. Each is asked while the other rests, and pages that are denied take no turn. (A request may come late, and then the
-    next one the sooner behind it.)"""
+    """With a delay of a second each of two sites is asked once in a second, by four workers: for its robots.txt, and
+    for three pages. Each is asked while the other rests, and pages that are denied take no turn. (A request may come
+    late, and then the next one the sooner after it.)"""
     sites = await sites_of(be_mixed, turn_aside)
     jobs = [(sites[0], f"/private/{n}") for n in range(40)] + [(sites[0], f"/{n}") for n in range(3)]
     report, _, _ = await crawl(["--workers", "4", "--delay", "1"], jobs + [(sites[1], "/x"), (sites[1], "/z")])
     assert report.endswith("SHIFT jobs 45 hops 46 starts 6\n"), report[-200:]
     assert [len(site.moments) for site in sites] == [4, 4], [site.targets for site in sites]
     in_time(least_pause(sites), 60, 0.75)
-    return "seconds from the first request to the last of two sites with four each, one in a second", seconds_of(sites), 4.5
+    return "seconds from the first request to the last of two sites with four each, one in a second", seconds_of(
+        sites
+    ), 4.5
 
 
 async def paced_over_redirects():
@@ -37,7 +39,9 @@ async def paced_over_redirects():
     assert report.endswith("SHIFT jobs 3 hops 6 starts 6\n"), report
     assert len(end.moments) == 4, end.moments
     in_time(least_pause([end]), 60, 0.75)
-    return "seconds from the first request to the last where three redirects lead to a site", seconds_of([*sites, end]), 5.5
+    return "seconds from the first request to the last where three redirects lead to a site", seconds_of(
+        [*sites, end]
+    ), 5.5
 
 
 async def paced_denials():

@@ -73,7 +73,11 @@ def answer(words, version):
         words = words if version > 1 else ["R", str(DAY), *words[1:]]
         need(len(words) == 3 and 60 <= numeral(words[1]) <= DAY and is_spelled_body(words[2]))
         return int(words[1]), " ".join(words)
-    need(len(words) == 2 and (words[0] == "O" and words[1] in ("unavailable", "redirects") or words[0] == "C" and words[1] in CLOSED))
+    need(
+        len(words) == 2 and (
+            words[0] == "O" and words[1] in ("unavailable", "redirects") or words[0] == "C" and words[1] in CLOSED
+        )
+    )
     return DAY, " ".join(words)
 
 
@@ -124,7 +128,7 @@ class History:
         return len(past)
 
     def base(self):
-        """Returns the lines behind the V 3 of a text that goes on from here."""
+        """Returns the lines after the V 3 of a text that goes on from here."""
         yield f"T {self.entries} {self.starts} {self.begins} {self.moment}"
         yield from (f"H {it} {turn} {begun} {words}" for it, (turn, begun, _, words) in sorted(self.answers.items()))
         yield from (f"I {it} {turn} {begun}" for it, (turn, begun) in sorted(self.turns.items(), key=lambda it: it[1]))
@@ -135,7 +139,7 @@ class History:
 
 
 class Auditor(History):
-    """A reader of one text behind the other, a line at a time."""
+    """A reader of one text after the other, a line at a time."""
 
     def __init__(self):
         super().__init__()
@@ -155,7 +159,9 @@ class Auditor(History):
         elif text == "V 3":
             self.version, self.of_text = 3, 0
             # (behind no entries there is no base, and nothing is what its line must be)
-            self.above, self.wanted = (("V", ()), None) if is_first else (None, list(self.base()) if self.entries else [None])
+            self.above, self.wanted = (("V", ()), None) if is_first else (
+                None, list(self.base()) if self.entries else [None],
+            )
         else:
             self.entry(text.split(" "))
 
@@ -163,7 +169,11 @@ class Auditor(History):
         return self.wanted is None and self.above is None
 
     def entry(self, words):
-        need(self.of_text < ENTRIES_LIMIT and self.entries < NUMBER_LIMIT and words[0] in list("BAGNSDKFW") and len(words) > 1)
+        need(
+            self.of_text < ENTRIES_LIMIT and self.entries < NUMBER_LIMIT and words[0] in list(
+                "BAGNSDKFW"
+            ) and len(words) > 1
+        )
         if words[0] not in "KF":
             moment = numeral(words[1])
             need(moment >= self.moment and len(words) > 2)
@@ -190,12 +200,20 @@ class Auditor(History):
         need(self.ruling(*page(token, url), self.moment) == (False, " ".join(cause)))
 
     def entry_S(self, moment, number, *reason):
-        need(numeral(number) in self.unspent and self.ruling(*self.unspent[int(number)], self.moment) == (True, " ".join(reason)))
+        need(
+            numeral(number) in self.unspent and self.ruling(
+                *self.unspent[int(number)], self.moment,
+            ) == (True, " ".join(reason))
+        )
         self.started += 1
         self.start(int(number))
 
     def entry_D(self, moment, number, *cause):
-        need(numeral(number) in self.unspent and self.ruling(*self.unspent.pop(int(number)), self.moment) == (False, " ".join(cause)))
+        need(
+            numeral(number) in self.unspent and self.ruling(
+                *self.unspent.pop(int(number)), self.moment,
+            ) == (False, " ".join(cause))
+        )
 
     def entry_K(self, number):
         need(self.unspent.pop(numeral(number), None))

@@ -1,5 +1,6 @@
-"""Clients of a server, several at a time, whose lines are drawn: what each is told must be true whatever the others do, no
-number may be granted twice, and what is sealed must be one chain. The server's memory may grow with its entries alone."""
+"""Clients of a server, several at a time, whose lines are drawn: what each is answered must be true whatever the others
+do, no number may be granted twice, and what is sealed must be one chain. The server's memory may grow only with its
+entries."""
 import random
 import re
 import threading
@@ -17,7 +18,10 @@ ROBOTS = {"rules": (200, RULES), "open": (404, b""), "closed": (500, b"")}
 TARGETS = ["/a", "/ab", "/no", "/no/b", "/x", "/moved", "/far", "/long", "/robots.txt"]
 # what the memory may grow by for an entry that is sealed, in octets, and beside that
 EACH, BESIDE = 24, 8_000_000
-ODD = ["", "x", "ASK", "ASK foobot", "ASK foobot x", "BEGIN a.example", "SWEEP", "5 SEAL", "DONE x", "START 1 foobot", "STATE a/b", "FETCH foobot ftp://x/", "\x01", "QUIT now", "SEAL x", "BACK 1 2"]
+ODD = [
+    "", "x", "ASK", "ASK foobot", "ASK foobot x", "BEGIN a.example", "SWEEP", "5 SEAL", "DONE x", "START 1 foobot",
+    "STATE a/b", "FETCH foobot ftp://x/", "\x01", "QUIT now", "SEAL x", "BACK 1 2",
+]
 
 
 class Fault(Exception):
@@ -48,7 +52,7 @@ class Play:
 
     def __init__(self, server):
         self.server, self.numbers = server, Numbers()
-        self.sites = {kind: sites.Site(host) for kind, host in zip(ROBOTS, sites.HOSTS)}
+        self.sites = {kind: sites.DrawnSite(host) for kind, host in zip(ROBOTS, sites.HOSTS)}
         for kind, site in self.sites.items():
             self.add_pages(kind, site)
         self.kinds = {site.authority: kind for kind, site in self.sites.items()}
@@ -59,7 +63,9 @@ class Play:
     def add_pages(self, kind, site):
         status, robots = ROBOTS[kind]
         for target in TARGETS:
-            status_of, location = (302, "/ab") if target == "/moved" else (302, f"http://{self.sites['open'].authority}/a") if target == "/far" else (200, None)
+            status_of, location = (302, "/ab") if target == "/moved" else (
+                302, f"http://{self.sites['open'].authority}/a",
+            ) if target == "/far" else (200, None)
             body = b"long" * 90_000 if target == "/long" else target.encode() * 3
             self.add(site, target, status_of, body, location)
         self.add(site, "/robots.txt", status, robots, None)
@@ -103,7 +109,9 @@ class Client:
         number = self.dice.choice([*self.unspent, self.other()])
         if number in self.unspent and self.dice.randrange(5):
             token, url = self.unspent[number]
-        is_own = (token.lower(), url) == (self.unspent.get(number, ("", ""))[0].lower(), self.unspent.get(number, ("", ""))[1])
+        is_own = (token.lower(), url) == (
+            self.unspent.get(number, ("", ""))[0].lower(), self.unspent.get(number, ("", ""))[1],
+        )
         why = self.play.world.ruling(token.lower(), url)[1]
         authority = re.escape(url.split("/")[2])
         self.say(f"START {number} {token} {url}", f"GO {number} {why}" if is_own else f"NO {authority} spent")
@@ -150,7 +158,9 @@ class Client:
         length = int(hop.split()[-2]) if hop.startswith("PAGE") else 0
         expect(head == f"BODY {length}", f"FETCH {token} {url}", head)
         body = self.session.octets(length + 1)
-        expect(body[-1:] == b"\n" and (not length or body[:-1] in self.play.bodies.values()), f"FETCH {token} {url}", body)
+        expect(
+            body[-1:] == b"\n" and (not length or body[:-1] in self.play.bodies.values()), f"FETCH {token} {url}", body,
+        )
 
     def seal(self):
         told = self.say("SEAL", r"SEALED \d+")
@@ -159,7 +169,9 @@ class Client:
             self.segments.append("".join(f"{it}\n" for it in lines))
 
     def run(self):
-        calls = [self.ask] * 8 + [self.start] * 8 + [self.done] * 5 + [self.back] * 2 + [self.state, self.refresh, self.odd, self.fetch, self.seal]
+        calls = [self.ask] * 8 + [self.start] * 8 + [self.done] * 5 + [self.back] * 2 + [
+            self.state, self.refresh, self.odd, self.fetch, self.seal,
+        ]
         try:
             with Session(self.play.server) as self.session:
                 for _ in range(self.dice.choice([3, 20, 200])):
@@ -204,12 +216,15 @@ def try_clients(tried, play, dice, last):
     if segments:
         text = "".join([*last, *segments]).encode()
         told, status, _ = tried.run(["audit"], text)
-        tried.expect("the chain", text, status == 0 and told.decode() == audit(text) + "\n", f"{short(told)}, {audit(text)}", ["audit"])
+        tried.expect(
+            "the chain", text, status == 0 and told.decode() == audit(text) + "\n", f"{short(told)}, {audit(text)}",
+            ["audit"],
+        )
     return segments[-1:] or last
 
 
 def try_all(tried, seconds, only=None):
-    """Clients of one server for so long. Its memory is told for each tenth of the time."""
+    """Clients of one server for so long. Its memory is printed for each tenth of the time."""
     with servers.Server("--workers", "4", "--endless", "--slots", "1024", "--log", "1000000") as server:
         play, last, began, tenth, first = Play(server), [], time.monotonic(), 1, None
         with Session(server) as it:
@@ -226,4 +241,7 @@ def try_all(tried, seconds, only=None):
                 if seconds > 100:
                     print(f"{time.monotonic() - began:6.0f} s {entries:12,} entries {memory / 1e6:8.1f} MB", flush=True)
                 most = first[1] + BESIDE + EACH * (entries - first[0])
-                tried.expect("the memory of a server", b"", memory <= most, f"{memory:,} octets behind {entries:,} entries, {first[1]:,} behind {first[0]:,}")
+                tried.expect(
+                    "the memory of a server", b"", memory <= most,
+                    f"{memory:,} octets after {entries:,} entries, {first[1]:,} after {first[0]:,}",
+                )

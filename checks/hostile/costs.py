@@ -7,7 +7,8 @@ from lib.costly import PATHS, TEXTS
 from lib.program import resident
 from lib.reading import TEXT_LIMIT, spelled
 
-# how long a line may take that is no ARRIVE, in milliseconds; what takes longer is measured again, since the machine may be busy
+# how long a line may take that is no ARRIVE, in milliseconds; what takes longer is measured again, since the machine
+# may be busy
 MOST, ATTEMPTS = 10, 3
 # how many times as long it may take on this machine
 slower = 1.0
@@ -41,8 +42,8 @@ class Conversation:
         return reply.decode().rstrip("\n"), took
 
     def clock(self):
-        """Returns the milliseconds that the program has had a processor for: what else the machine does counts little then.
-        Where the system does not tell, those of a clock."""
+        """Returns the milliseconds that the program has had a processor for: what else the machine does counts little
+        then. Where the system does not tell, those of a clock."""
         try:
             # (it is counted up when the program waits again)
             while self.told("stat").rpartition(")")[2].split()[0] == "R":
@@ -72,7 +73,8 @@ def lines_over(text):
 
 
 def measure(program, text):
-    """Returns the milliseconds of each line by its verb, the greatest; those of an ask by its number, too, and the memory."""
+    """Returns the milliseconds of each line by its verb, the greatest; those of an ask by its number, too, and the
+    memory."""
     most, asks, replies, permit = {}, [], [], {"permit": 1, "token": "foobot", "url": "http://a.example/"}
     with Conversation(program) as it:
         it.say("0 STATE a.example")
@@ -117,4 +119,8 @@ def print_costs(program):
         walk = min(max(it[1][:WALKS]) for it in rounds)
         index = min(it[1][WALKS] for it in rounds)
         later = min(max(it[1][WALKS + 1 :]) for it in rounds)
-        print(f"| {name} | {arrive:.1f} ms | {walk:.2f} ms | {index:.2f} ms | {later:.2f} ms | {max(it[2] for it in rounds) / 1e6:.1f} MB |", flush=True)
+        print(
+            f"| {name} | {arrive:.1f} ms | {walk:.2f} ms | {index:.2f} ms | {later:.2f} ms | "
+            f"{max(it[2] for it in rounds) / 1e6:.1f} MB |",
+            flush=True,
+        )

@@ -1,30 +1,44 @@
-"""Random dialogues of `replay`: what the program answers, the history that it writes, and what of that an audit says; and
-texts of histories that were changed. All of it is compared with the gate and the auditor that are written here."""
+"""Random dialogues of `replay`: what the program answers, the history that it writes, and what of that an audit says;
+and texts of histories that were changed. All of it is compared with the gate and the auditor that are written here."""
 import pages
 from lib import drawn
 from lib.reading import spelled
 from auditor import DAY, GENERATION_LIMIT, NUMBER_LIMIT, audit
 from gate import Gate
 
-SITES = ["a.example", "b.example", "A.EXAMPLE:80", "b.example:8080", "b.example:08080", "127.1", "127.0.0.1", "c.example."]
+SITES = [
+    "a.example", "b.example", "A.EXAMPLE:80", "b.example:8080", "b.example:08080", "127.1", "127.0.0.1", "c.example.",
+]
 BAD_SITES = ["a/b", "", "a b", "a.example:99999", "x@a.example", "[", "1.2.3.256", "a%20b"]
 TOKENS = ["foobot", "FooBot", "barbot", "x_y-z", "crawlgate"]
 ENDINGS = ["", "", "", "?", "?a", "?b=%7e", "#x", "/..", "/./a", "\\a"]
-LOCATIONS = ["/r", "r", "?x", "-", "https://b.example/r", "http://b.example/r", "http://u@b.example/", "//b.example/x", "ftp://b.example/", "http://", "https://u:p@h/"]
+LOCATIONS = [
+    "/r", "r", "?x", "-", "https://b.example/r", "http://b.example/r", "http://u@b.example/", "//b.example/x",
+    "ftp://b.example/", "http://", "https://u:p@h/",
+]
 STATUSES = ["404", "410", "429", "500", "503", "304", "999", "100", "NET", "CODING"]
-ODD = [b"", b" ", b"x", b"5", b"5 ask foobot http://a.example/", b"5 ASK foobot", b"5  SWEEP", b" 5 SWEEP", b"5 SWEEP ", b"\x80 SWEEP", b"5\tSWEEP", b"-1 SWEEP",
-       b"18446744073709551616 SWEEP", b"5 STATE", b"5 BACK x", b"5 DONE 18446744073709551616", b"5 REFRESH a.example", b"5 ASK foo2 http://a.example/",
-       b"5 ASK " + b"x" * 65 + b" http://a.example/", b"5 ARRIVE a.example 1", b"5 ARRIVE a.example x 404 -", b"5 QUIT now"]
-ODD_URLS = ["foo", "http:/a.example/x", "http:a.example/x", "https://a.example/x", "http://u@a.example/", "http://:@a.example/x", "ftp://a.example/", "http://a.example:80/x",
-            "HTTP://A.example/x", "http://a.example:/x", "http://[::1]/x", "http://a.example/" + "x" * 4080, "http://a.example/" + '"' * 1500, "http://", "http://a.example/%"]
+ODD = [b"", b" ", b"x", b"5", b"5 ask foobot http://a.example/", b"5 ASK foobot", b"5  SWEEP", b" 5 SWEEP", b"5 SWEEP ",
+       b"\x80 SWEEP", b"5\tSWEEP", b"-1 SWEEP",
+       b"18446744073709551616 SWEEP", b"5 STATE", b"5 BACK x", b"5 DONE 18446744073709551616", b"5 REFRESH a.example",
+       b"5 ASK foo2 http://a.example/",
+       b"5 ASK " + b"x" * 65 + b" http://a.example/", b"5 ARRIVE a.example 1", b"5 ARRIVE a.example x 404 -",
+       b"5 QUIT now"]
+ODD_URLS = ["foo", "http:/a.example/x", "http:a.example/x", "https://a.example/x", "http://u@a.example/",
+            "http://:@a.example/x", "ftp://a.example/", "http://a.example:80/x",
+            "HTTP://A.example/x", "http://a.example:/x", "http://[::1]/x", "http://a.example/" + "x" * 4080,
+            "http://a.example/" + '"' * 1500, "http://", "http://a.example/%"]
 
 
 def file_of(dice):
     """Draws a robots.txt."""
     if dice.randrange(3) == 0:
         return dice.choice(drawn.SMALL) + dice.choice(drawn.SMALL)
-    rule = lambda: dice.choice(drawn.KINDS) + b"/" + "".join(dice.choices(drawn.PIECES, k=dice.randrange(6))).encode() + b"\n"
-    return b"".join(dice.choice(drawn.OTHERS) if dice.randrange(4) == 0 else rule() for _ in range(dice.randrange(1, 12)))
+    rule = lambda: dice.choice(drawn.KINDS) + b"/" + "".join(
+        dice.choices(drawn.PIECES, k=dice.randrange(6))
+    ).encode() + b"\n"
+    return b"".join(
+        dice.choice(drawn.OTHERS) if dice.randrange(4) == 0 else rule() for _ in range(dice.randrange(1, 12))
+    )
 
 
 class Dialogue:
@@ -52,8 +66,12 @@ class Dialogue:
     def say(self):
         gate = self.gate
         draws = {
-            self.ask: 30, self.start: 2 + 15 * bool(gate.unspent), self.begin: 3 + 9 * (len(gate.answers) < 2), self.arrive: 1 + 19 * bool(gate.turns),
-            self.back: 1 + 3 * bool(gate.unspent), self.done: 1 + 9 * bool(gate.running), self.state: 3, self.sweep: 2, self.seal: 2, self.odd: 2,
+            self.ask: 30, self.start: 2 + 15 * bool(gate.unspent), self.begin: 3 + 9 * (
+                len(gate.answers) < 2
+            ), self.arrive: 1 + 19 * bool(gate.turns),
+            self.back: 1 + 3 * bool(
+                gate.unspent
+            ), self.done: 1 + 9 * bool(gate.running), self.state: 3, self.sweep: 2, self.seal: 2, self.odd: 2,
         }
         line = self.dice.choices([*draws], draws.values())[0]()
         self.add(line if isinstance(line, bytes) else f"{self.now()} {line}".encode())
@@ -74,7 +92,9 @@ class Dialogue:
         return self.dice.choice(["", "", "", "0"]) + str(self.moment)
 
     def site(self):
-        return self.dice.choice(SITES[: self.dice.choice([1, 2, 3, 3, 4, len(SITES)])] if self.dice.randrange(30) else BAD_SITES)
+        return self.dice.choice(
+            SITES[: self.dice.choice([1, 2, 3, 3, 4, len(SITES)])] if self.dice.randrange(30) else BAD_SITES
+        )
 
     def url(self):
         if self.dice.randrange(20) == 0:
@@ -102,7 +122,11 @@ class Dialogue:
         return [self.dice.choice(["301", "302", "303", "307", "308"]), self.dice.choice(locations)]
 
     def replies(self):
-        words = [word for _ in range(self.dice.choice([0] * 9 + [1, 2, 5, 6])) for word in self.redirect(["/r"] * 20 + LOCATIONS)]
+        words = [
+            word for _ in range(
+                self.dice.choice([0] * 9 + [1, 2, 5, 6])
+            ) for word in self.redirect(["/r"] * 20 + LOCATIONS)
+        ]
         end = self.dice.randrange(20)
         if end == 0:
             words += self.redirect(LOCATIONS)
@@ -163,8 +187,14 @@ def try_dialogue(tried, dice):
     tried.same("audit", whole, ["audit"], f"{told}\n".encode(), 0 if told.startswith("OK ") else 1)
 
 
-NUMBERS = ["0", "1", "2", "3", "65535", "65536", "65537", "131072", str(DAY), str(GENERATION_LIMIT), str(2**64 - 1), str(2**64), "01", "60", "59"]
-ENTRIES = ["V 1", "V 2", "V 3", "E", "", "K 65536", "F 65536", "W 0 0", "L 0 1", "B 100 d.example 1", "T 1 0 0 0", "T 1 0 1 100"]
+NUMBERS = [
+    "0", "1", "2", "3", "65535", "65536", "65537", "131072", str(DAY), str(GENERATION_LIMIT), str(2**64 - 1),
+    str(2**64), "01", "60", "59",
+]
+ENTRIES = [
+    "V 1", "V 2", "V 3", "E", "", "K 65536", "F 65536", "W 0 0", "L 0 1", "B 100 d.example 1", "T 1 0 0 0",
+    "T 1 0 1 100",
+]
 
 
 def change_octet(dice, lines):
@@ -172,7 +202,12 @@ def change_octet(dice, lines):
     line = lines[at]
     place = dice.randrange(len(line) + 1)
     octet = bytes([dice.choice([*b" 0123456789%-\r\nABGS/:.aZ", dice.randrange(256)])])
-    lines[at] = dice.choice([line[:place] + octet + line[place + 1 :], line[:place] + octet + line[place:], line[:place] + line[place + 1 :]])
+    lines[at] = dice.choice(
+        [
+            line[:place] + octet + line[place + 1 :], line[:place] + octet + line[place:],
+            line[:place] + line[place + 1 :],
+        ]
+    )
 
 
 def flip_bit(dice, lines):
@@ -223,12 +258,20 @@ def move_text(dice, lines):
     starts = [at for at, it in enumerate(lines) if it.startswith(b"V ")] + [len(lines)]
     texts = [lines[begin:end] for begin, end in zip(starts, starts[1:])]
     if texts:
-        change = dice.choice([dice.shuffle, lambda them: them.pop(dice.randrange(len(them))), lambda them: them.append(dice.choice(them)), list.reverse])
+        change = dice.choice(
+            [
+                dice.shuffle, lambda them: them.pop(dice.randrange(len(them))),
+                lambda them: them.append(dice.choice(them)), list.reverse,
+            ]
+        )
         change(texts)
         lines[:] = [line for text in texts for line in text]
 
 
-CHANGES = [change_octet, change_octet, flip_bit, drop_line, double_line, swap_lines, change_word, change_word, change_word, add_line, cut_lines, move_text]
+CHANGES = [
+    change_octet, change_octet, flip_bit, drop_line, double_line, swap_lines, change_word, change_word, change_word,
+    add_line, cut_lines, move_text,
+]
 MUTANTS = 12
 
 

@@ -1,5 +1,5 @@
-"""A server with a journal that is killed at random moments, again and again, in one folder: what its clients were told and
-what sites were asked for stands in the folder's files, and the next server goes on from there."""
+"""A server with a journal that is killed at random moments, again and again, in one folder: what its clients learned
+and what sites were asked for stands in the folder's files, and the next server goes on from there."""
 import contextlib
 import os
 import random
@@ -21,7 +21,7 @@ LONGEST = 0.12
 FULL = b"crawlgate: device: journal: File too large (os error 27)\n"
 
 
-class Site(sites.Site):
+class KillsSite(sites.Site):
     """A site whose every page is there, and whose robots.txt may take its time."""
 
     def __init__(self):
@@ -35,7 +35,7 @@ class Site(sites.Site):
 
 
 class Told:
-    """What clients were told that is an entry of the history: numbers by the letter of their entry, and counts of the
+    """What clients learned that is an entry of the history: numbers by the letter of their entry, and counts of the
     entries that have no number."""
 
     def __init__(self):
@@ -73,7 +73,8 @@ class Found:
             return file.read()
 
     def read(self):
-        """Reads what is new. Returns the whole lines of the last two files, and how many octets of a torn one follow."""
+        """Reads what is new. Returns the whole lines of the last two files, and how many octets of a torn one
+        follow."""
         names = self.names()
         for name in names:
             if name in self.done:
@@ -104,14 +105,15 @@ class Found:
                 counts[words[0]] += 1
 
     def missing(self, told):
-        """Returns what was told and does not stand here."""
+        """Returns what clients learned and does not stand here."""
         numbers = {letter: sorted(told.numbers[letter] - self.numbers[letter]) for letter in told.numbers}
         counts = {letter: told.counts[letter] - self.counts[letter] - self.last[letter] for letter in told.counts}
-        return {it: value for it, value in {**numbers, **counts}.items() if (value if isinstance(value, list) else value > 0)}
+        found = {**numbers, **counts}.items()
+        return {it: value for it, value in found if (value if isinstance(value, list) else value > 0)}
 
 
-class Server(servers.Server):
-    """A server with a journal, which may have files of so many octets at most, as on a disk that is full."""
+class KillsServer(servers.Server):
+    """A server with a journal, which may have files of that many octets at most, as on a disk that is full."""
 
     def __init__(self, folder, words, most=None):
         self.path = None
@@ -121,7 +123,10 @@ class Server(servers.Server):
             resource.setrlimit(resource.RLIMIT_FSIZE, (most, most))
 
         words = [self.program, "serve", "--journal", folder, *words]
-        self.process = subprocess.Popen(words, stdin=subprocess.DEVNULL, stdout=subprocess.PIPE, stderr=subprocess.PIPE, preexec_fn=limit if most is not None else None)
+        self.process = subprocess.Popen(
+            words, stdin=subprocess.DEVNULL, stdout=subprocess.PIPE, stderr=subprocess.PIPE,
+            preexec_fn=limit if most is not None else None,
+        )
         self._read_port()
 
     def kill(self):
@@ -135,7 +140,9 @@ def work(server, site, told, dice, seals):
     with contextlib.suppress(OSError, AssertionError), servers.Session(server) as it:
         while True:
             url = site.url(f"/{dice.randrange(10**12)}" if dice.random() < 0.9 else "/no")
-            kind = dice.choice(["ask", "ask", "start", "start", "done", "back", "fetch", "state", "refresh"] + ["seal"] * seals)
+            kind = dice.choice(
+                ["ask", "ask", "start", "start", "done", "back", "fetch", "state", "refresh"] + ["seal"] * seals
+            )
             if kind == "ask":
                 line = f"ASK foobot {url}"
             elif kind == "start" and out:
@@ -173,7 +180,7 @@ class Case:
 
     def __init__(self, tried, dice, folder):
         self.tried, self.dice, self.folder = tried, dice, f"{folder}/journal"
-        self.site, self.told, self.found = Site(), Told(), None
+        self.site, self.told, self.found = KillsSite(), Told(), None
         self.words = ["--journal-sync", dice.choice(["always", "second", "never"]), "--endless", "--workers", "4"]
         self.slots = dice.choice([1, 3, 1024])
         self.words += ["--slots", str(self.slots)]
@@ -208,15 +215,19 @@ class Case:
                 time.sleep(0.02)
             self.expect("the next ask", re.fullmatch(r"PERMIT \d+", reply or ""), reply)
             number = (reply or " ").split(" ")[1]
-            self.expect("a number", not self.found or number not in self.found.numbers["G"], f"{number} was granted before")
+            self.expect(
+                "a number", not self.found or number not in self.found.numbers["G"], f"{number} was granted before",
+            )
             self.told.note("ASK", reply or "")
             self.told.note("BACK", it.say(f"BACK {number}") or "")
 
     def round(self):
         """A server in which clients work until it is killed, or its files are full."""
-        most = self.dice.choice([None, None, self.dice.randrange(self.dice.choice([1_000, 4_000, 60_000]))]) if self.found else None
+        most = self.dice.choice(
+            [None, None, self.dice.randrange(self.dice.choice([1_000, 4_000, 60_000]))]
+        ) if self.found else None
         try:
-            server = Server(self.folder, self.words, most)
+            server = KillsServer(self.folder, self.words, most)
         except AssertionError as fault:
             self.expect("the start of a server", most is not None and FULL.decode().strip() in str(fault), str(fault))
             self.tried.count("full at the start")
@@ -247,19 +258,19 @@ class Case:
         except subprocess.TimeoutExpired:
             return False
         ended = output, server.process.returncode, error
-        # (it may have told of a torn line at its start)
+        # (it may have reported a torn line at its start)
         self.expect("the end of a server whose files are full", ended[:2] == (b"", 3) and error.endswith(FULL), ended)
         self.tried.count("full files")
         return True
 
     def look(self):
-        """What was told stands in the files, and what the site was asked for has its start there."""
+        """What clients learned stands in the files, and what the site was asked for has its start there."""
         self.found = self.found or Found(self.folder)
         text, torn = self.found.read()
         self.tried.count("torn lines", bool(torn))
         self.audit("the last files", text)
         missing = self.found.missing(self.told)
-        self.expect("what was told", not missing, f"not in the journal: {str(missing)[:300]}")
+        self.expect("what clients learned", not missing, f"not in the journal: {str(missing)[:300]}")
         started = self.found.numbers["S"]
         pages = [it for it in self.site.asked if it != "/robots.txt"]
         lost = [it for it in pages if self.found.urls.get(self.site.url(it)) not in started]
@@ -273,7 +284,7 @@ def try_case(tried, dice):
         for _ in range(ROUNDS):
             case.round()
             case.look()
-        server = Server(case.folder, case.words)
+        server = KillsServer(case.folder, case.words)
         case.goes_on(server)
         server.kill()
         whole = b"".join(case.found.text(name) for name in case.found.names())
@@ -281,6 +292,6 @@ def try_case(tried, dice):
 
 
 def try_all(tried, seconds, only=None):
-    Server.program = tried.program
+    KillsServer.program = tried.program
     for dice in tried.cases(seconds, only):
         try_case(tried, dice)

@@ -1,5 +1,5 @@
-"""Memory that is refused: each growth in turn, over every subcommand, by the library of checks/memory. A run must end as
-docs/FORMATS.md says, what it wrote must be its own, and a history that was written whole must be audited as right.
+"""Memory that is refused: each growth in turn, over every subcommand, by the library of checks/memory. A run must end
+as docs/FORMATS.md says, what it wrote must be its own, and a history that was written whole must be audited as right.
 """
 import os
 import random
@@ -21,7 +21,7 @@ from dialogues import Dialogue
 from gate import Gate
 from tried import SECONDS
 
-# so many runs in a row that met no refusal end a sweep
+# that many runs in a row that met no refusal end a sweep
 IN_A_ROW = 20
 NO_MEMORY = (3, b"crawlgate: no memory\n")
 # verbs whose lines take memory: for a token, an authority, a URL, the walk, or the call
@@ -32,7 +32,8 @@ JOBS = ["/x", "/moved", "/no", "/long", "/none"]
 
 
 def replay_lines():
-    """A session in which each verb is answered in each way that takes memory, an index is made, and more is sealed than once."""
+    """A session in which each verb is answered in each way that takes memory, an index is made, and more is sealed than
+    once."""
     yield "1 BEGIN a.example"
     yield f"2 ARRIVE a.example 1 301 /r 302 http://b.example/r 200/3600 {ROBOTS}"
     yield "3 BEGIN b.example:8080"
@@ -41,12 +42,19 @@ def replay_lines():
     yield from (f"5 ASK foobot http://a.example/part{at}/{'x' * (at * 40)}" for at in range(20))
     yield from (f"6 ASK FooBot http://a.example/b{at}?%7e" for at in range(6))
     yield from (f"7 START {65_536 + at} foobot http://a.example/b{at}?%7e" for at in range(4))
-    yield from ["7 DONE 65536", "7 BACK 65541", "8 SEAL", "8 STATE a.example", "9 ASK foobot http://d.example/", "10 ASK foobot http://b.example:8080/x", "10 SEAL"]
-    yield from ["86000 SWEEP", "86000 ASK foobot http://a.example/x", "90000 SWEEP", "90001 START 65540 foobot http://a.example/b4?%7e", "90002 BEGIN b.example:8080", "90003 QUIT"]
+    yield from [
+        "7 DONE 65536", "7 BACK 65541", "8 SEAL", "8 STATE a.example", "9 ASK foobot http://d.example/",
+        "10 ASK foobot http://b.example:8080/x", "10 SEAL",
+    ]
+    yield from [
+        "86000 SWEEP", "86000 ASK foobot http://a.example/x", "90000 SWEEP",
+        "90001 START 65540 foobot http://a.example/b4?%7e", "90002 BEGIN b.example:8080", "90003 QUIT",
+    ]
 
 
 def wrong_reply(gate, lines, found, most=1):
-    """Returns what of the replies to lines is not their own, nor 'ERR memory' to so many of them; and how many lines were answered."""
+    """Returns what of the replies to lines is not their own, nor 'ERR memory' to that many of them; and how many lines
+    were answered."""
     refused = 0
     for at, line in enumerate(lines):
         if not found:
@@ -99,7 +107,7 @@ class Export:
 
 
 class Same:
-    """A run that writes what it does with memory, or ends for want of it, at a begin of that."""
+    """A run that writes what it does with memory, or ends without it, at a prefix of that."""
 
     def __init__(self, words, given):
         self.words, self.given, self.wanted = words, given, None
@@ -114,11 +122,14 @@ class Same:
         return None if self.wanted[0].startswith(found) else f"it wrote {short(found)}"
 
 
-HOP = "(PAGE (line 1|norule) (200 5|302 0|200 1048576|404 0) (whole|cut)|NO SITE (line 2|closed|unknown)|FAULT H[89]|ERR memory)"
+HOP = (
+    "(PAGE (line 1|norule) (200 5|302 0|200 1048576|404 0) (whole|cut)|NO SITE (line 2|closed|unknown)|FAULT H[89]|ERR "
+    "memory)"
+)
 
 
 def is_for_memory(status, error):
-    """Returns whether a shift ended because memory ran out. Sites that were closed may be told before that."""
+    """Returns whether a shift ended because memory ran out. Sites that were closed may be reported before that."""
     return status == NO_MEMORY[0] and error.endswith(NO_MEMORY[1])
 
 
@@ -169,7 +180,9 @@ class Serve:
     def talk(self, session):
         """Returns what is wrong with a reply; None where there is none because the session has ended."""
         for line, reply in SAID:
-            found = session.say(line.replace(" {site}/", f" http://{self.site.authority}/").format(site=self.site.authority))
+            found = session.say(
+                line.replace(" {site}/", f" http://{self.site.authority}/").format(site=self.site.authority)
+            )
             if found is None:
                 return None
             if not re.fullmatch(reply.format(site=re.escape(self.site.authority)), found):
@@ -226,7 +239,10 @@ class Sweep:
             return self.session.run(self.program, environment)
         try:
             with open(self.given, "rb") as file:
-                ran = subprocess.run([self.program, *self.session.words], stdin=file, capture_output=True, timeout=SECONDS, env=environment)
+                ran = subprocess.run(
+                    [self.program, *self.session.words], stdin=file, capture_output=True, timeout=SECONDS,
+                    env=environment,
+                )
         except subprocess.TimeoutExpired:
             return "it hangs", b"", None, b""
         return None, ran.stdout, ran.returncode, ran.stderr
@@ -240,7 +256,9 @@ class Sweep:
             wrong = f"its status is {status}, and it tells {short(error)}"
         wrong = wrong or self.session.fault(self.tried, found, status, error)
         words = ["env", "LD_PRELOAD=growths.so", f"REFUSED={refused}", *self.session.words]
-        self.tried.expect(f"growth {refused} of {' '.join(self.session.words)}", self.session.given, not wrong, wrong, words)
+        self.tried.expect(
+            f"growth {refused} of {' '.join(self.session.words)}", self.session.given, not wrong, wrong, words,
+        )
         # (a run that was ended by a signal tells no count)
         asked = refused
         if os.path.exists(self.told):
@@ -251,11 +269,15 @@ class Sweep:
         return is_met, asked
 
     def all(self, seconds, dice):
-        """Refuses one growth after the other; where there is not the time for each, some of them, as far apart as must be."""
+        """Refuses one growth after the other; where there is not the time for each, some of them, as far apart as must
+        be."""
         self.refuse(0)
         began = time.monotonic()
         _, asked = self.refuse(0)
-        self.tried.expect(f"growths of {self.session.name}", self.session.given, asked, "none is counted: the program has another allocator")
+        self.tried.expect(
+            f"growths of {self.session.name}", self.session.given, asked,
+            "none is counted: the program has another allocator",
+        )
         self.tried.count(f"growths of {self.session.name}", asked)
         each = time.monotonic() - began
         step = max(1, round(asked * each / max(seconds - IN_A_ROW * each, seconds / 2)))
@@ -270,7 +292,9 @@ class Sweep:
 def chain():
     """A history in three texts, two of them segments with bases."""
     gate = Gate()
-    texts = [said[1:] for said in map(gate.reply, (it.encode() for it in replay_lines())) if said[0].startswith("SEALED ")]
+    texts = [
+        said[1:] for said in map(gate.reply, (it.encode() for it in replay_lines())) if said[0].startswith("SEALED ")
+    ]
     return "".join(f"{it}\n" for text in [*texts, gate.text()] for it in text).encode()
 
 
@@ -287,7 +311,11 @@ def sessions(dice, site):
     yield "a random replay", Replay(drawn.lines, drawn.options)
     yield "replay --export", Export(["replay", "--export"], given.replace(b"8 SEAL\n", b"").replace(b"10 SEAL\n", b""))
     yield "audit of version 2", Same(["audit"], text[: text.index(b"\nV 3\n") + 1])
-    yield "audit of version 1", Same(["audit"], b"B 1 a.example 1\nA 2 a.example 1 R %s\nG 3 65536 foobot http://a.example/x\nS 4 65536 norule\nF 65536\n" % ROBOTS.encode())
+    yield "audit of version 1", Same(
+        ["audit"],
+        b"B 1 a.example 1\nA 2 a.example 1 R %s\nG 3 65536 foobot http://a.example/x\nS 4 65536 norule\nF "
+        b"65536\n" % ROBOTS.encode(),
+    )
     yield "audit of a chain", Same(["audit"], text)
     yield "audit of a segment with a base", Same(["audit"], second)
     yield "lines", Same(["lines"], robots)
@@ -303,7 +331,9 @@ def hostile_site():
     # (a client that wants no more of a page resets its connection, of which the site need not tell)
     threading.excepthook = lambda it: None if issubclass(it.exc_type, OSError) else threading.__excepthook__(it)
     robots = response(200, b"user-agent: *\ndisallow: /no\n")
-    return open_site({"/robots.txt": robots, "/moved": response(302, b"", "Location: /x"), "/long": response(200, b"x" * 1_048_577)})
+    return open_site(
+        {"/robots.txt": robots, "/moved": response(302, b"", "Location: /x"), "/long": response(200, b"x" * 1_048_577)}
+    )
 
 
 def try_all(tried, seconds, only=None):
@@ -317,4 +347,6 @@ def try_all(tried, seconds, only=None):
         for tried.case, (name, session) in enumerate(named):
             session.name = name
             if only in (None, tried.case):
-                Sweep(tried, folder, session).all(seconds / (len(named) if only is None else 1), random.Random(f"{tried.seed} {name}"))
+                Sweep(tried, folder, session).all(
+                    seconds / (len(named) if only is None else 1), random.Random(f"{tried.seed} {name}"),
+                )

@@ -12,15 +12,23 @@ from dialogues import Dialogue
 
 LINE_LIMITS = [8_192, 65_536, 512_000, 2_097_152]
 COMMANDS = [
-    ["replay"], ["replay", "--slots", "1", "--log", "3"], ["replay", "--export"], ["audit"], ["lines"], ["check", "foobot", "-"],
-    ["check", "--explain", "foobot", "-"], ["check", "foobot", "/a", "/"], ["shift"], ["shift", "--tsv"], ["shift", "--export"],
+    ["replay"], [
+        "replay", "--slots", "1", "--log", "3",
+    ], ["replay", "--export"], ["audit"], ["lines"], ["check", "foobot", "-"],
+    [
+        "check", "--explain", "foobot", "-",
+    ], ["check", "foobot", "/a", "/"], ["shift"], ["shift", "--tsv"], ["shift", "--export"],
 ]
-WORDS = ["replay", "shift", "serve", "audit", "lines", "check", "--slots", "--log", "--export", "--explain", "--robots", "--robots=/", "--tsv", "--help", "--version", "--workers", "0", "1", "65537", "-1",
-         "foobot", "/a", "-", "", "--", "--slots=1", "x" * 5_000, "\u00e9", "99999999999999999999", "+1", " 1", "1e3", "-h", "help", b"\xff", b"/\xff\xfe"]
+WORDS = ["replay", "shift", "serve", "audit", "lines", "check", "--slots", "--log", "--export", "--explain", "--robots",
+         "--robots=/", "--tsv", "--help", "--version", "--workers", "0", "1", "65537", "-1",
+         "foobot", "/a", "-", "", "--", "--slots=1", "x" * 5_000, "\u00e9", "99999999999999999999", "+1", " 1", "1e3",
+         "-h", "help", b"\xff", b"/\xff\xfe"]
 REPLY = re.compile(
-    rb"TURN \S+ \d+|TAKEN \S+ (rules|open|closed)|PERMIT \d+|GO \d+ (open|norule|robots|line \d+)|NO \S+ (spent|unknown|expired|closed|line \d+)|(BACK|DONE) \d+"
+    rb"TURN \S+ \d+|TAKEN \S+ (rules|open|closed)|PERMIT \d+|GO \d+ (open|norule|robots|line \d+)|NO \S+ (spent|"
+    rb"unknown|expired|closed|line \d+)|(BACK|DONE) \d+"
     rb"|STATE \S+ (unknown|expired|closed|open|rules) (idle|fetching)|SWEPT \d+|SEALED \d+|BYE"
-    rb"|ERR (long|lines|chars|words|moment|verb|number|token|authority|url (long|bad|scheme|user)|status|replies|inflight|log|authorities|stale|busy|permits|notout)"
+    rb"|ERR (long|lines|chars|words|moment|verb|number|token|authority|url (long|bad|scheme|user)|status|replies|"
+    rb"inflight|log|authorities|stale|busy|permits|notout)"
 )
 
 
@@ -29,13 +37,25 @@ def noise(dice):
 
 
 def words(dice):
-    pieces = [b"ASK", b"BEGIN", b"ARRIVE", b"SEAL", b"QUIT", b"5", b"foobot", b"http://127.0.0.1:1/", b"a.example", b"B", b"A", b"G", b"V 3", b"T", b"E", b"200", b"%", b"-"]
-    return b"".join(dice.choice(pieces) + dice.choice([b" "] * 8 + [b"\n"] * 4 + [b"\r\n", b"", b"\0", b"\t"]) for _ in range(dice.randrange(400)))
+    pieces = [
+        b"ASK", b"BEGIN", b"ARRIVE", b"SEAL", b"QUIT", b"5", b"foobot", b"http://127.0.0.1:1/", b"a.example", b"B",
+        b"A", b"G", b"V 3", b"T", b"E", b"200", b"%", b"-",
+    ]
+    return b"".join(
+        dice.choice(pieces) + dice.choice(
+            [b" "] * 8 + [b"\n"] * 4 + [b"\r\n", b"", b"\0", b"\t"]
+        ) for _ in range(dice.randrange(400))
+    )
 
 
 def long_line(dice):
     line = dice.choice([b"x", b" ", b"5 ", b"%41", b"\0", b"/", b"*", b"a.", b"http://a/"])
-    start = dice.choice([b"", b"5 ASK foobot http://a.example/", b"5 BEGIN ", b"A 5 a.example 1 R 60 ", b"Disallow: /", b"foobot http://127.0.0.1:1/", b"5 ARRIVE a.example 1 200 "])
+    start = dice.choice(
+        [
+            b"", b"5 ASK foobot http://a.example/", b"5 BEGIN ", b"A 5 a.example 1 R 60 ", b"Disallow: /",
+            b"foobot http://127.0.0.1:1/", b"5 ARRIVE a.example 1 200 ",
+        ]
+    )
     size = dice.choice(LINE_LIMITS) + dice.randrange(-3, 4)
     return (start + line * (size // len(line) + 1))[:size] + dice.choice([b"", b"\n", b"\r\n", b"\n\n", b"\r"])
 
@@ -56,7 +76,10 @@ def zeros(dice):
 
 
 def jobs(dice):
-    jobs = [b"foobot http://127.0.0.1:1/x", b"foobot http://[::1]:1/", b"foobot http://127.0.0.1:1/" + b"a" * 3_000, b"foobot https://a/", b"x y z", b"", b"foobot"]
+    jobs = [
+        b"foobot http://127.0.0.1:1/x", b"foobot http://[::1]:1/", b"foobot http://127.0.0.1:1/" + b"a" * 3_000,
+        b"foobot https://a/", b"x y z", b"", b"foobot",
+    ]
     return b"\n".join(dice.choice(jobs[:3] * 9 + jobs) for _ in range(dice.choice([1, 30, 4_097])))
 
 
@@ -131,7 +154,9 @@ def talk(tried, server, dice, given):
     except OSError as error:
         told = repr(error)
     is_told = server.process.poll() is None and told == "STATE a.example unknown idle"
-    tried.expect(f"clients: {end}", given, is_told, f"the next client is told {told!r}, the status is {server.process.poll()}")
+    tried.expect(
+        f"clients: {end}", given, is_told, f"the next client is told {told!r}, the status is {server.process.poll()}",
+    )
 
 
 def try_all(tried, seconds, only=None):

@@ -16,7 +16,7 @@ class Refused(Exception):
 
 
 class Untold(Exception):
-    """It is not told here what comes of the text: of names that are not ASCII, or of schemes that are not special."""
+    """It is not said here what comes of the text: of names that are not ASCII, or of schemes that are not special."""
 
 
 def escaped(text, octets):
@@ -29,7 +29,9 @@ def unescaped(text):
 
 def number_of(part):
     """Returns the number that a part of an IPv4 address writes, or None."""
-    radix, digits = (16, part[2:]) if part[:2] in ("0x", "0X") else (8, part[1:]) if part[:1] == "0" and part[1:] else (10, part)
+    radix, digits = (
+        16, part[2:],
+    ) if part[:2] in ("0x", "0X") else (8, part[1:]) if part[:1] == "0" and part[1:] else (10, part)
     try:
         return 0 if not digits and part else int(digits, radix) if re.fullmatch("[0-9a-fA-F]+", digits) else None
     except ValueError:
@@ -44,7 +46,9 @@ def ipv4_of(host):
     if not parts[-1].isdigit() and number_of(parts[-1]) is None:
         return host
     numbers = [number_of(it) for it in parts]
-    if len(parts) > 4 or None in numbers or any(it > 255 for it in numbers[:-1]) or numbers[-1] >= 256 ** (5 - len(parts)):
+    if len(parts) > 4 or None in numbers or any(
+        it > 255 for it in numbers[:-1]
+    ) or numbers[-1] >= 256 ** (5 - len(parts)):
         raise Refused("bad")
     value = numbers[-1] + sum(it * 256 ** (3 - at) for at, it in enumerate(numbers[:-1]))
     return str(ipaddress.IPv4Address(value))
@@ -71,7 +75,9 @@ def host_of(text):
 def authority_at(text, scheme):
     """Returns whether a user is named, and the host with its port, as they are written."""
     user, at_sign, place = text.rpartition("@")
-    host, colon, port = re.fullmatch(r"((?:\[[^\]]*(?:\]|$)|[^:\[])*)(:?)(.*)", place).groups() if "[" in place else place.partition(":")
+    host, colon, port = re.fullmatch(
+        r"((?:\[[^\]]*(?:\]|$)|[^:\[])*)(:?)(.*)", place,
+    ).groups() if "[" in place else place.partition(":")
     if not host or port and not port.isdigit() or port and int(port) > 65_535:
         raise Refused("bad")
     host = host_of(host)

@@ -17,7 +17,7 @@ PAGE_LIMIT, ROBOTS_LIMIT, MOST_REDIRECTS = 1_048_576, 512_001, 5
 NOWHERE = ["", "https://a.example/", "ftp://x/y", "http://", "http://u@h/", "mailto:x"]
 
 
-class Site(Requests):
+class DrawnSite(Requests):
     """A site on a host of the loopback, whose responses change with each case."""
 
     def __init__(self, host):
@@ -107,7 +107,9 @@ class World:
             hops = list(self.hops(token, url))
             starts += sum(it.startswith(("PAGE", "FAULT")) for it in hops)
             lines += [f"{number} {at} {it}" for at, it in enumerate(hops, 1)]
-        return "".join(f"{it}\n" for it in [*lines, f"SHIFT jobs {len(jobs)} hops {len(lines)} starts {starts}"]).encode()
+        return "".join(
+            f"{it}\n" for it in [*lines, f"SHIFT jobs {len(jobs)} hops {len(lines)} starts {starts}"]
+        ).encode()
 
 
 SITES = []
@@ -117,11 +119,15 @@ def robots_of(dice):
     kind = dice.randrange(10)
     if kind < 4:
         return b"User-agent: *\nDisallow: /a\nAllow: /ab\nDisallow: /*c$\nUser-agent: barbot\nDisallow: /b\n"
-    return dice.choices([it for _, it in texts.KINDS], [it for it, _ in texts.KINDS])[0](dice) if kind < 9 else dice.randbytes(300)
+    return dice.choices(
+        [it for _, it in texts.KINDS], [it for it, _ in texts.KINDS],
+    )[0](dice) if kind < 9 else dice.randbytes(300)
 
 
 def body_of(dice):
-    return dice.randbytes(dice.choice([0, 1, 5, 300, 20_000])) if dice.randrange(60) else b"x" * (PAGE_LIMIT + dice.randrange(-1, 3))
+    return dice.randbytes(
+        dice.choice([0, 1, 5, 300, 20_000])
+    ) if dice.randrange(60) else b"x" * (PAGE_LIMIT + dice.randrange(-1, 3))
 
 
 def page_of(dice, locations):
@@ -132,7 +138,9 @@ def page_of(dice, locations):
 
 def draw(dice, site, locations):
     """Has a site answer otherwise than before."""
-    robots = responses.drawn(dice, robots_of(dice), locations, dice.choice([200, 200, 200, 200, None])) if dice.randrange(60) else responses.broken(dice, b"x" * 20)
+    robots = responses.drawn(
+        dice, robots_of(dice), locations, dice.choice([200, 200, 200, 200, None]),
+    ) if dice.randrange(60) else responses.broken(dice, b"x" * 20)
     site.responses.clear()
     site.responses.update({pages.target_of(pages.read(f"http://a{it}")[1]): page_of(dice, locations) for it in TARGETS})
     site.responses["/robots.txt"] = robots
@@ -140,7 +148,7 @@ def draw(dice, site, locations):
 
 def try_crawl(tried, dice):
     """Compares the report of a shift, whatever the number of its workers, and has its history be audited."""
-    SITES.extend(Site(it) for it in HOSTS[len(SITES) :])
+    SITES.extend(DrawnSite(it) for it in HOSTS[len(SITES) :])
     urls = [f"http://{site.authority}{target}" for site in SITES for target in TARGETS]
     locations = [*urls, *(dice.choice(TARGETS) for _ in range(8)), *NOWHERE[: dice.randrange(len(NOWHERE) + 1)]]
     for site in SITES:
@@ -155,5 +163,10 @@ def try_crawl(tried, dice):
     history, status, error = tried.run([*words, "--export"], given)
     told, ended, _ = tried.run(["audit"], history)
     starts = int(wanted.rsplit(b" ", 1)[1])
-    is_right = (status, ended) == (0, 0) and re.fullmatch(rb"OK events \d+ starts %d\n" % starts, told) and told.decode() == audit(history) + "\n"
-    tried.expect("the history of a crawl", given, is_right, f"status {status}, {short(error)}, {short(told)}, {audit(history)}", words)
+    is_right = (status, ended) == (0, 0) and re.fullmatch(
+        rb"OK events \d+ starts %d\n" % starts, told,
+    ) and told.decode() == audit(history) + "\n"
+    tried.expect(
+        "the history of a crawl", given, is_right, f"status {status}, {short(error)}, {short(told)}, {audit(history)}",
+        words,
+    )

@@ -1,5 +1,5 @@
-"""Hostile robots.txt files: what `lines`, `check` and `check --explain` write of them, and what is told of them on standard
-error, against the second reading of RFC 9309 in checks/reading."""
+"""Hostile robots.txt files: what `lines`, `check` and `check --explain` write of them, and what is reported of them on
+standard error, against the second reading of RFC 9309 in checks/reading."""
 import re
 import tempfile
 
@@ -9,7 +9,10 @@ from lib.drawn import PIECES, drawn_texts, octet_soup
 from lib.reading import TEXT_LIMIT
 
 TOKENS = ["foobot", "FooBot", "barbot", "foo-_bot", "crawlgate"]
-URLS = ["/", "/a", "/ab", "/b", "/robots.txt", "/robots.txt?", "https://h/a", "HTTPS://H:443/ab?c", "http://h/a/../b", "/a#b", "ftp://h/", "a", "http://u@h/", "/" + "a" * 4_094, "https://", "/%2a", "//a"]
+URLS = [
+    "/", "/a", "/ab", "/b", "/robots.txt", "/robots.txt?", "https://h/a", "HTTPS://H:443/ab?c", "http://h/a/../b",
+    "/a#b", "ftp://h/", "a", "http://u@h/", "/" + "a" * 4_094, "https://", "/%2a", "//a",
+]
 PLAIN = b"User-agent: *\nDisallow: /a\nAllow: /ab\n"
 
 
@@ -65,7 +68,7 @@ def agents_of(records, token):
 
 
 def told(text, records):
-    """Returns what is told of a text on standard error."""
+    """Returns what is reported of a text on standard error."""
     lines = []
     if len(text) > TEXT_LIMIT:
         lines.append("of the robots.txt only the lines that end within 512,000 bytes are read")
@@ -83,7 +86,12 @@ def explained(records, token, path):
     yield from heads or ["agent none"]
     rules = list(ranked(records, token, path))
     for octets, kind, line, value, is_matching in rules:
-        yield " ".join(["rule line", str(line), kind, *([escaped(value)] if value else []), "octets", str(octets), "matches" if is_matching else "no"])
+        yield " ".join(
+            [
+                "rule line", str(line), kind, *([escaped(value)] if value else []), "octets", str(octets),
+                "matches" if is_matching else "no",
+            ]
+        )
     matching = sorted((it for it in rules if it[4]), key=lambda it: (-it[0], it[1] != "allow", it[2]))
     yield f"because {'robots' if path == b'/robots.txt' else reason(matching)}"
 
@@ -113,14 +121,16 @@ def rule_on(records, line):
 
 
 def is_split(text):
-    """Returns whether a text has an empty line behind which the URLs of a check would begin."""
+    """Returns whether a text has an empty line after which the URLs of a check would begin."""
     return re.search(rb"(?i)(^|\n)\r?\n(/|https?:)", text) is not None
 
 
 def soup(dice):
     """Octets that are nearly a robots.txt."""
     text = octet_soup(dice, dice.choice([30, 300, 3_000]))
-    return dice.choice([text, b"\xef\xbb\xbf" + text, text.replace(b"\n", b"\r"), text.replace(b"a", b"\xc3\xa9"), text + PLAIN])
+    return dice.choice(
+        [text, b"\xef\xbb\xbf" + text, text.replace(b"\n", b"\r"), text.replace(b"a", b"\xc3\xa9"), text + PLAIN]
+    )
 
 
 def drawn(dice):
@@ -129,15 +139,24 @@ def drawn(dice):
 
 def groups(dice):
     """Many groups and heads, some of them doubled, some of them empty."""
-    heads = [f"user-agent: {it}\n".encode() for it in ["*", "* x", "foobot", "FOOBOT/2", "barbot", "1", "", "foo-_bot x"]]
-    rules = [b"allow: /a\n", b"disallow: /a\n", b"disallow:\n", b"allow: /a$\n", b"disallow: /*b\n", b"allow: /a?b'\n", b"allow: /'?\n", b"sitemap: x\n", b"\n", b"# x\n", b"disallow /a\n"]
+    heads = [
+        f"user-agent: {it}\n".encode() for it in ["*", "* x", "foobot", "FOOBOT/2", "barbot", "1", "", "foo-_bot x"]
+    ]
+    rules = [
+        b"allow: /a\n", b"disallow: /a\n", b"disallow:\n", b"allow: /a$\n", b"disallow: /*b\n", b"allow: /a?b'\n",
+        b"allow: /'?\n", b"sitemap: x\n", b"\n", b"# x\n", b"disallow /a\n",
+    ]
     return b"".join(dice.choice(heads + rules) for _ in range(dice.choice([20, 200])))
 
 
 def otherwise_coded(dice):
     """A robots.txt in UTF-16, or a page that is none."""
     html = b"<!doctype html><html><title>User-agent: *</title>\nDisallow: /a\n</html>" * dice.randrange(1, 40)
-    return dice.choice([PLAIN.decode().encode(it) for it in ("utf-16", "utf-16-le", "utf-16-be", "utf-32")] + [html, b"\0" + PLAIN, PLAIN.replace(b"\n", b"\0\n")])
+    return dice.choice(
+        [
+            PLAIN.decode().encode(it) for it in ("utf-16", "utf-16-le", "utf-16-be", "utf-32")
+        ] + [html, b"\0" + PLAIN, PLAIN.replace(b"\n", b"\0\n")]
+    )
 
 
 def at_the_limit(dice):
@@ -186,10 +205,15 @@ def try_checks(tried, dice, text, records, notes, file):
             tried.count("verdicts", len(urls))
             wanted = answers(records, token.lower(), urls, bool(options))
             tried.same("check", text, ["check", *options, token, *urls], *wanted, error=notes)
-            tried.same("check of a file", b"", ["check", *options, "--robots", file, token, *urls], *wanted, error=notes)
+            tried.same(
+                "check of a file", b"", ["check", *options, "--robots", file, token, *urls], *wanted, error=notes,
+            )
             given = "".join(f"{it}\n" for it in urls).encode()
             if urls:
-                tried.same("check of a file and lines", given, ["check", *options, "--robots", file, token, "-"], *wanted, error=notes)
+                tried.same(
+                    "check of a file and lines", given, ["check", *options, "--robots", file, token, "-"], *wanted,
+                    error=notes,
+                )
             if not is_split(text + b"\n"):
                 given = text + b"\n\n" + "".join(f"{it}\n" for it in ["/", *urls]).encode()
                 if len(text) < TEXT_LIMIT:

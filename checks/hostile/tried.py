@@ -1,4 +1,5 @@
-"""What the parts of checks/hostile have in common: runs of the program, how they must end, and the report of what failed."""
+"""What the parts of checks/hostile have in common: runs of the program, how they must end, and the report of what
+failed."""
 import collections
 import random
 import re
@@ -27,7 +28,7 @@ class Tried:
         self.case = self.began = 0
 
     def cases(self, seconds, only=None):
-        """Gives the dice of one case after the other, for so many seconds; or those of the only case."""
+        """Gives the dice of one case after the other, for that many seconds; or those of the only case."""
         self.began = time.monotonic()
         self.case = only or 0
         while only is not None or self.case == 0 or time.monotonic() - self.began < seconds:
@@ -46,7 +47,11 @@ class Tried:
             return
         self.failed += 1
         if self.failed <= MOST_TOLD:
-            print(f"FAILED {self.part}, seed {self.seed}, case {self.case}: {what[:200]}: {told}; input {self.kept(given, words)}", flush=True)
+            print(
+                f"FAILED {self.part}, seed {self.seed}, case {self.case}: {what[:200]}: {told}; input "
+                f"{self.kept(given, words)}",
+                flush=True,
+            )
 
     def kept(self, given, words):
         """Writes an input to a file, and returns its name."""
@@ -73,18 +78,27 @@ class Tried:
         found, ended, told = self.run(words, given)
         about = f"{what}: {' '.join(words)}"
         if ended != status:
-            self.expect(about, given, False, f"its status is {ended}, and not {status}; it wrote {short(found)}, {short(told)}", words)
+            self.expect(
+                about, given, False, f"its status is {ended}, and not {status}; it wrote {short(found)}, {short(told)}",
+                words,
+            )
         else:
             self.expect(about, given, found == wanted, found != wanted and difference(found, wanted), words)
             if error is not None:
-                self.expect(about, given, told == error, told != error and f"of its standard error {difference(told, error)}", words)
+                self.expect(
+                    about, given, told == error, told != error and f"of its standard error {difference(told, error)}",
+                    words,
+                )
 
     def survives(self, what, given, words, **how):
         """Sees to it that the program ends as it may, whatever it is given. Returns what it wrote, and its status."""
         found, status, error = self.run(words, given, **how)
         is_told = status in (0, 1, 2) or FAULT.search(error)
         told = "it hangs" if status is None else f"its status is {status}, and it tells {short(error)}"
-        self.expect(f"{what}: {' '.join(map(str, words))}", given, status in STATUSES and is_told, told, [str(it) for it in words])
+        self.expect(
+            f"{what}: {' '.join(map(str, words))}", given, status in STATUSES and is_told, told,
+            [str(it) for it in words],
+        )
         return found, status
 
 

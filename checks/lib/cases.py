@@ -1,6 +1,13 @@
 """Cases of a check: how one is tried, what is said of it, and how they are counted."""
+import contextlib
+import linecache
+import os
+import re
 import sys
+import traceback
 from itertools import zip_longest
+
+CHECKS = os.path.dirname(os.path.dirname(os.path.realpath(__file__)))
 
 
 class Skipped(Exception):
@@ -8,12 +15,12 @@ class Skipped(Exception):
 
 
 class OutOfTime(AssertionError):
-    """Something took longer than it may, or less long. It may be the machine, which was busy: the case is tried again."""
+    """A limit of time was missed. The machine may have been busy, so the case is tried again."""
 
 
 class OutOfRoom(OutOfTime):
-    """So little memory was there that a case had nothing to show. How it is laid out under a limit is chance: the case is
-    tried again."""
+    """So little memory was there that a case had nothing to show. How it is laid out under a limit is chance: the case
+    is tried again."""
 
 
 def in_time(seconds, most, least=0):
@@ -39,20 +46,42 @@ def difference(found, wanted):
     return f"line {at} is {line(one)}, and not {line(other)}"
 
 
-def passes(case, *words, attempts=1):
-    """Returns whether a case went as it must, or None where it can't be tried here, and prints what it tells. A case that
-    is out of time is tried again, so many times in all."""
+def place_of(error):
+    """Returns the line of a case where an error came up, and the values that it names, each on a line of its own."""
+    frames = [it for it in traceback.walk_tb(error.__traceback__) if is_of_cases(it[0].f_code.co_filename)]
+    if not frames:
+        return ""
+    frame, number = frames[-1]
+    path = frame.f_code.co_filename
+    text = linecache.getline(path, number).strip()
+    names = [it for it in dict.fromkeys(re.findall(r"(?<![\w.])[A-Za-z_]\w*", text)) if it in frame.f_locals]
+    lines = [
+        f"{os.path.relpath(path, CHECKS)}:{number}: {text}", *(f"{it} = {short(frame.f_locals[it])}" for it in names),
+    ]
+    return "".join(f"\n    {it}" for it in lines)
+
+
+def is_of_cases(path):
+    """Whether a file has cases, and not what tries them."""
+    path = os.path.realpath(path)
+    return path.startswith(f"{CHECKS}/") and path != os.path.realpath(__file__)
+
+
+def passes(case, *words, attempts=1, given=lambda _: contextlib.nullcontext({})):
+    """Returns whether a case went as it must, or None where it can't be tried here, and prints what it tells. A case
+    that is out of time is tried again, that many times in all. What it is given by names may be made for each try."""
     name = case.__name__
     for left in reversed(range(attempts)):
         try:
-            told = case(*words)
+            with given(case) as named:
+                told = case(*words, **named)
         except Skipped as why:
             print(f"skipped {name}: {why}", flush=True)
             return None
         except OutOfTime as error:
-            print(f"again {name}: {error}" if left else f"FAILED {name}: {error}", flush=True)
+            print(f"again {name}: {error}" if left else f"FAILED {name}: {error}{place_of(error)}", flush=True)
         except Exception as error:  # whatever the program did
-            print(f"FAILED {name}: {type(error).__name__}: {error}", flush=True)
+            print(f"FAILED {name}: {type(error).__name__}: {error}{place_of(error)}", flush=True)
             return False
         else:
             print(f"passed {name}" + (f": {told}" if told else ""), flush=True)
@@ -76,6 +105,7 @@ def counted(results):
 
 
 def ended(passed, failed):
-    """Prints the last line of a check that counts by itself, and returns its status. One that tried nothing has failed."""
+    """Prints the last line of a check that counts by itself, and returns its status. One that tried nothing has
+    failed."""
     print(f"{passed} passed, {failed} failed")
     return 0 if passed and not failed else 1

@@ -29,7 +29,8 @@ def distinct(signs, seed, most=15):
 
 
 def side_by_side(signs, seed, least, most):
-    """Returns rules whose runs stand side by side in a path, and that path: all runs of so many signs, each once or until the text is full."""
+    """Returns rules whose runs stand side by side in a path, and that path: all runs of that many signs, each once or
+    until the text is full."""
     dice = random.Random(seed)
     path = "".join(dice.choices(signs, k=4_060))[:4_060]
     lines, size = [b"user-agent: *\n"], 14
@@ -63,7 +64,8 @@ def stairs_of_runs(sign):
 
 
 def in_turn(literals):
-    """Returns rules that ask for a few literals again and again, each behind the one before, and a path that has them so."""
+    """Returns rules that ask for a few literals again and again, each after the one before, and a path that has them
+    so."""
     line = "*" + "*".join(literals * (160 // sum(len(it) + 1 for it in literals)))
     path, room = "", 4_060
     for sign in "".join(literals) * room:
@@ -76,13 +78,14 @@ def in_turn(literals):
 
 
 def nowhere(signs, count, seed):
-    """Returns rules of a literal each, of so many signs, that mostly stands nowhere in a path of these signs."""
+    """Returns rules of a literal each, of that many signs, that mostly stands nowhere in a path of these signs."""
     dice = random.Random(seed)
     lines = ["".join(dice.choices(signs, k=count)) for _ in range(SIZE // (count + 8))]
     return b"user-agent: *\n" + "".join(f"allow:*{it}\n" for it in lines).encode()
 
 
-# literals that had one place among those that `path_pattern` keeps (by `number_of` in kept.rt), when each had one: they pushed each other out
+# literals that had one place among those that `path_pattern` keeps (by `number_of` in kept.rt), when each had one: they
+# pushed each other out
 PUSHED_OUT, PUSHED_PATH = in_turn(["!", "f"])
 PUSHED_PAIRS, PUSHED_PAIRS_PATH = in_turn(['{"', "}}", "`|", '"e'])
 # literals that have both their places in common, of which two are kept (the search for them took a minute)
@@ -113,7 +116,7 @@ TEXTS = {
     "rules of twelve escapes that nearly match": filled(b"allow:*^^|^^^^|||^|\n"),
     "rules of twenty runs that stand far apart": filled(b"allow:" + b"*<*>" * 10 + b"*}}\n"),
     "rules of twenty runs that nearly stand where they are next": filled(b"allow:" + b"*{|}" * 19 + b"*}~\n"),
-    "rules that stand before a sign alone": filled(b"allow:*<*^^^^\n"),
+    "rules that stand only before a sign": filled(b"allow:*<*^^^^\n"),
     "rules that fall behind where the path is": filled(b"allow:*" + b"^|" * 5 + b"^^\n"),
     "rules that leave the path in their midst": filled(b"allow:*" + b"^|" * 6 + b"{^|\n"),
     "rules that follow the path for 69 signs": filled(b"allow:*" + b"^|" * 34 + b"\n"),
@@ -133,13 +136,16 @@ TEXTS = {
     "rules of five signs that stand nowhere": nowhere("^|{}", 5, 4),
     "rules of nine signs that stand nowhere": nowhere("^|{}", 9, 4),
     "rules of 24 signs that nearly stand": filled(b"allow:*" + b"^|" * 11 + b"^{\n"),
-    "70 rules of one letter, and a long comment": b"user-agent: *\n" + b"allow:*q~\n" * 70 + b"#" + b"c" * 20_000 + b"\n",
+    "70 rules of one letter, and a long comment":
+        b"user-agent: *\n" + b"allow:*q~\n" * 70 + b"#" + b"c" * 20_000 + b"\n",
     "long rules that match to their end": filled(b"allow:*" + b"a" * 10 + b"b" + b"a" * 31 + b"b" + b"a" * 5 + b"ba\n"),
     "rules of two stars": filled(b"disallow:*a*b{n}\n"),
     "rules of 1,000 stars": filled(b"disallow: /" + b"a*" * 1_000 + b"x{n}\n"),
-    "rules of 1,000 stars alone": filled(b"disallow: /" + b"*" * 1_000 + b"x{n}\n"),
+    "rules of nothing but 1,000 stars": filled(b"disallow: /" + b"*" * 1_000 + b"x{n}\n"),
     "rules that end the path": filled(b"disallow:*b$\n"),
-    "short rules, many of them the same": filled(b"".join(b"allow:/%c%c\n" % (97 + at % 26, 97 + at // 26 % 26) for at in range(676))),
+    "short rules, many of them the same": filled(
+        b"".join(b"allow:/%c%c\n" % (97 + at % 26, 97 + at // 26 % 26) for at in range(676))
+    ),
     "rules of 4,000 octets": filled(b"disallow: " + LONG.encode() + b"{n}\n"),
     "one rule of 499,000 octets": b"user-agent: *\ndisallow: /" + b"ab" * 249_500 + b"\n",
     "one rule of 249,000 stars": b"user-agent: *\ndisallow: /" + b"a*" * 249_000 + b"x\n",
@@ -151,7 +157,7 @@ TEXTS = {
     "groups of others": filled(b"user-agent: x\ndisallow: /\n", b""),
     "heads before each rule": filled(b"user-agent: foobot\nuser-agent: *\nuser-agent: x\ndisallow: /*a*{n}\n", b""),
     "empty lines": filled(b"\n"),
-    "CR alone": filled(b"\r") + b"disallow: /b\n",
+    "bare CRs": filled(b"\r") + b"disallow: /b\n",
     "colons": filled(b":"),
     "comments": filled(b"#\n"),
     "NULs": filled(b"\0"),
@@ -159,15 +165,25 @@ TEXTS = {
     "HTML": filled(b"<p>user-agent: *<br>disallow: /{n}</p>\n"),
 }
 DICE = random.Random(9309)
-# (a query's bars, carets and braces are escaped in the normal form alone, which has three times as many octets then)
+# (a query's bars, carets and braces are escaped only in the normal form, which has three times as many octets then)
 PATHS = [
-    LONG, "/" + "a" * 3_990, "/part7/page", "/x" * 1_990, "/" + "%2A" * 1_300, "/" + "aab" * 1_330, "/" + ("a" * 31 + "b") * 124,
-    "/?" + "||^" * 1_330, "/?" + "".join(DICE.choices(["||", "|^", "^^", "^|"], k=1_990)), "/?" + "".join(DICE.choices(["{||", "{{}", "||}"], k=1_330)),
-    "/?" + "".join("".join(DICE.choices("{|", k=197)) + it for it in "<>" * 10), "/?" + "^|" * 1_990, "/?" + "^" * 2_000 + "<" + "^^^|" * 490,
+    LONG, "/" + "a" * 3_990, "/part7/page", "/x" * 1_990, "/" + "%2A" * 1_300, "/" + "aab" * 1_330, "/" + (
+        "a" * 31 + "b"
+    ) * 124,
+    "/?" + "||^" * 1_330, "/?" + "".join(
+        DICE.choices(["||", "|^", "^^", "^|"], k=1_990)
+    ), "/?" + "".join(DICE.choices(["{||", "{{}", "||}"], k=1_330)),
+    "/?" + "".join(
+        "".join(DICE.choices("{|", k=197)) + it for it in "<>" * 10
+    ), "/?" + "^|" * 1_990, "/?" + "^" * 2_000 + "<" + "^^^|" * 490,
     "/?" + "".join("".join(DICE.choices(["{||", "{{}", "||}"], k=64)) + "{|}" for _ in range(20)),
     "/?" + ("^|" * 30 + "{|") * 64, "/?" + ("^|" * 450 + "{|") * 4,
-    "/?" + "|" * 2_000 + "~" + (NEARLY * 5 + "|") * 19, "/?" + "".join(DICE.choices("^|{}", k=2_030)) * 2, MANY_PATH, FEW_PATH,
-    SHORT_RUNS_PATH, OTHER_RUNS_PATH, LONG_RUNS_PATH, PUSHED_PATH, PUSHED_PAIRS_PATH, CROWDED_PATH, "/?" + "".join(DICE.choices("^|{}", k=4_060)), "/?" + ("^|" * 11 + "^}") * 169,
+    "/?" + "|" * 2_000 + "~" + (NEARLY * 5 + "|") * 19, "/?" + "".join(
+        DICE.choices("^|{}", k=2_030)
+    ) * 2, MANY_PATH, FEW_PATH,
+    SHORT_RUNS_PATH, OTHER_RUNS_PATH, LONG_RUNS_PATH, PUSHED_PATH, PUSHED_PAIRS_PATH, CROWDED_PATH, "/?" + "".join(
+        DICE.choices("^|{}", k=4_060)
+    ), "/?" + ("^|" * 11 + "^}") * 169,
     # (all but these are asked before there is an index, too)
     "/", "/ab", "/%7e%7e%7e7",
 ]

@@ -3,7 +3,7 @@ import itertools
 
 
 def words(letters, most):
-    """Returns all words of up to so many letters."""
+    """Returns all words of up to that many letters."""
     return ["".join(it) for count in range(most + 1) for it in itertools.product(letters, repeat=count)]
 
 
@@ -13,8 +13,13 @@ KINDS = [b"Allow: ", b"Disallow: "]
 PATTERNS = [b"", b"/", b"/a", b"/ab", b"/b", b"/*b", b"/a$", b"*", b"/a*$"]
 PATHS = ["/", "/a", "/ab", "/b", "/abb", "/aab"]
 SMALL = [b"".join(it) + b"\n" for it in itertools.product(HEADS, KINDS, PATTERNS)]
-OTHERS = [b"User-agent: *\n", b"User-agent: foobot\n", b"User-agent: barbot\n", b"\n", b"Sitemap: /s\n", b"User-agent: 1\n"]
-PIECES = ["a", "a", "b", "/", "/", "c", "*", "$", "%2A", "%2a", "%24", "%7e", "%7E", "%", "%4", "|", "%25", "~", "(", "%C3%A9", "%00"]
+OTHERS = [
+    b"User-agent: *\n", b"User-agent: foobot\n", b"User-agent: barbot\n", b"\n", b"Sitemap: /s\n", b"User-agent: 1\n",
+]
+PIECES = [
+    "a", "a", "b", "/", "/", "c", "*", "$", "%2A", "%2a", "%24", "%7e", "%7E", "%", "%4", "|", "%25", "~", "(",
+    "%C3%A9", "%00",
+]
 
 
 def small_texts():
@@ -45,5 +50,8 @@ def drawn_texts(dice, count):
 
 
 def octet_soup(dice, count):
-    pieces = [b"user-agent", b"Allow", b"DISALLOW", b"sitemap", b":", b":", b" ", b"\t", b"#", b"*", b"/", b"a", b"Foo-_bot", b"1", b"\xff", b"\x00", b"\r", b"\n", b"\r\n", b"\n", b"\xef\xbb\xbf"]
+    pieces = [
+        b"user-agent", b"Allow", b"DISALLOW", b"sitemap", b":", b":", b" ", b"\t", b"#", b"*", b"/", b"a", b"Foo-_bot",
+        b"1", b"\xff", b"\x00", b"\r", b"\n", b"\r\n", b"\n", b"\xef\xbb\xbf",
+    ]
     return b"".join(dice.choices(pieces, k=count))

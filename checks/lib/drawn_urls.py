@@ -1,16 +1,21 @@
-"""URLs as sites write them in links, drawn from a seed, with all that a library may write in another way; and how a gate writes
-them."""
+"""URLs as sites write them in links, drawn from a seed, with all that a library may write in another way; and how a
+gate writes them."""
 from lib.server import Session
 
 SCHEMES = ["http://"] * 12 + ["HTTP://", "http:/", "http:\\\\", " http://"]
 AUTHORITIES = ["a.example"] * 12 + [
-    "A.Example", "a.example:80", "a.example:8080", "a.example:", "a.example.", "a_b.example", "%61.example", "bücher.example",
-    "xn--bcher-kva.example", "127.0.0.1", "0x7f.1", "[::1]", "[2001:DB8::1]:8000", "user@a.example", "user:word@a.example",
+    "A.Example", "a.example:80", "a.example:8080", "a.example:", "a.example.", "a_b.example", "%61.example",
+    "bücher.example",
+    "xn--bcher-kva.example", "127.0.0.1", "0x7f.1", "[::1]", "[2001:DB8::1]:8000", "user@a.example",
+    "user:word@a.example",
 ]
 PIECES = ["a", "b", "/", "/", ";", ";", "?", "?", "%"] + [
-    "private", "cgi", "//", ".", "..", "%2e", "%2E%2e", "/./", "/../", ";a=1", "&", "=", "#", "#!", "%23", "[", "]", "{", "}",
-    "|", "\\", "^", "`", "'", '"', "<", ">", "%4", "%zz", "%2F", "%2f", "%7e", "%7E", "%C3%A9", "%c3%a9", "%00", "%0A", "%3B",
-    "%3b", "%3F", "%5B", "%20", " ", "  ", "+", "~", "!", "$", "(", ")", "*", ",", ":", "@", "-", "_", "é", "日本", "\u200b",
+    "private", "cgi", "//", ".", "..", "%2e", "%2E%2e", "/./", "/../", ";a=1", "&", "=", "#", "#!", "%23", "[", "]",
+    "{", "}",
+    "|", "\\", "^", "`", "'", '"', "<", ">", "%4", "%zz", "%2F", "%2f", "%7e", "%7E", "%C3%A9", "%c3%a9", "%00", "%0A",
+    "%3B",
+    "%3b", "%3F", "%5B", "%20", " ", "  ", "+", "~", "!", "$", "(", ")", "*", ",", ":", "@", "-", "_", "é", "日本",
+    "\u200b",
     "\u00a0", "\x7f", "URL:", "http://",
 ]
 # how many lines are sent before their replies are read
@@ -18,7 +23,7 @@ AT_ONCE = 200
 
 
 def drawn_urls(dice, count):
-    """Returns so many URLs."""
+    """Returns that many URLs."""
     return [dice.choice(SCHEMES) + dice.choice(AUTHORITIES) + drawn_target(dice) for _ in range(count)]
 
 
@@ -43,8 +48,8 @@ def as_written(server, urls):
 
 
 def compared(written, sent):
-    """Compares what was sent, or None where a library refused, which is seldom, with what the gate wrote. Returns how many
-    were sent and refused."""
+    """Compares what was sent, or None where a library refused, which is seldom, with what the gate wrote. Returns how
+    many were sent and refused."""
     assert len(sent) == len(written), f"{len(sent)} outcomes of {len(written)} URLs"
     others = [(it, other) for it, other in zip(written, sent) if other not in (None, it)]
     assert not others, f"{len(others)} URLs are sent otherwise: {others[:5]}"

@@ -1,4 +1,5 @@
-"""What the examples are tried with: sites of the example's pages, an archive that is read back, and a crawl in parts."""
+"""What the examples are tried with: sites of the example's pages, an archive that is read back, and a crawl in
+parts."""
 import functools
 import http.server
 import os
@@ -38,8 +39,8 @@ class Keeping(Quiet):
 
 
 class Sites:
-    """The site of the examples with three pages more, on so many ports. With a context of TLS they are sites of https. The
-    requests that came are kept."""
+    """The site of the examples with three pages more, on that many ports. With a context of TLS they are sites of
+    https. The requests that came are kept."""
 
     def __init__(self, count=1, context=None):
         self.count, self.context, self.asked = count, context, []
@@ -75,8 +76,8 @@ class Sites:
 
 def archive(server, folder, urls, *words):
     """Returns what archive.py writes, its standard error, and its status."""
-    given = "".join(f"{it}\n" for it in urls).encode()
-    words = [sys.executable, f"{ROOT}/examples/archive.py", str(server.port), "FooBot", folder, *words]
+    given = "".join(f"{it}\n" for it in urls).encode("utf-8", "surrogateescape")
+    words = [sys.executable, f"{ROOT}/examples/archive.py", server.front, "FooBot", folder, *words]
     ran = subprocess.run(words, input=given, capture_output=True, timeout=SECONDS)
     return ran.stdout.decode(), ran.stderr.decode(), ran.returncode
 
@@ -102,23 +103,18 @@ def audited(text, *words):
     return starts
 
 
-def check_folder(folder, *words):
-    """Returns the pages of an archive, each of which has a start of its own in the audited segments."""
-    return check_pages(folder, b"".join(octets_of(folder, ".segment")), *words)
-
-
-def check_pages(folder, text, *words):
-    """Returns the pages of an archive, each of which has a start of its own in a text that is audited."""
-    starts = audited(text, *words)
+def check_pages(folder, journal, *words):
+    """Returns the pages of an archive, each of which has a start of its own in the journal, which is audited."""
+    starts = audited(b"".join(octets_of(journal, "")), *words)
     pages = [page for octets in octets_of(folder, ".warc") for page in pages_of(octets)]
     for name in os.listdir(folder):
         if name.endswith(".warc"):
             read_by_warcio(f"{folder}/{name}")
-    numbers = [fields["WARC-Crawlgate-Permit"] for fields, _, _ in pages]
+    numbers = [it.fields["WARC-Crawlgate-Permit"] for it in pages]
     same(len(set(numbers)), len(numbers))
-    for number, (fields, _, _) in zip(numbers, pages):
+    for number, page in zip(numbers, pages):
         assert number in starts, f"no start of {number}"
-        same(starts[number][1:], (fields["WARC-Crawlgate-Reason"], fields["WARC-Target-URI"]))
+        same(starts[number][1:], (page.fields["WARC-Crawlgate-Reason"], page.fields["WARC-Target-URI"]))
     return pages
 
 
@@ -139,7 +135,8 @@ def jobs_of(sites):
 
 
 def crawl(given, *words, program=None, descriptors=None, **environment):
-    """Returns what many-machines/crawl writes, and its status. It has only so many descriptors, where that is told."""
+    """Returns what many-machines/crawl writes, and its status. It has only that many descriptors, where that is
+    told."""
     environment = {**os.environ, "CRAWLGATE": program or Server.program, "AT_ONCE": "3", **environment}
     environment.pop("MACHINES", None)
     words = [f"{ROOT}/examples/many-machines/crawl", *words]

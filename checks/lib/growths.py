@@ -1,4 +1,5 @@
-"""An allocator that counts what a program asks of it, or refuses one request, as a library to be loaded before others."""
+"""An allocator that counts what a program asks of it, or refuses one request, as a library to be loaded before
+others."""
 import os
 import subprocess
 

@@ -22,7 +22,7 @@ import time
 
 from lib.toolchain import rt, rtlib
 
-# of so many kept verdicts one is tried again in each run
+# of that many kept verdicts one is tried again in each run
 AGAIN = 16
 # the free bytes of disk below which no more folders are kept
 LEAVES = 8_000_000_000
@@ -91,7 +91,7 @@ class Store:
 
     @contextlib.contextmanager
     def increments(self, name):
-        """Lends a kept folder of rattle's to this process alone. Another one, which is removed again, where it can't be kept
+        """Lends a kept folder of rattle's only to this process. Another one, which is removed again, where it can't be kept
         or another process has it. Its content is removed first where all is to be done anew."""
         at = self.part("increments", name) if self.at and not self.is_distrusted else None
         with contextlib.ExitStack() as held:

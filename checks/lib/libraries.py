@@ -1,5 +1,6 @@
-"""How a library of the repository is built where it has changed: taken of `rt ci`, if that has proved it on this machine, or else
-proved. What it is built of is the same octets as in `rt ci`, so a verdict over one counts over the other.
+"""How a library of the repository is built where it has changed: taken of `rt ci`, if that has proved it on this
+machine, or else proved. What it is built of is the same octets as in `rt ci`, so a verdict over one counts over the
+other.
 """
 import os
 import shutil
@@ -14,8 +15,8 @@ def builds_below(crate):
 
 
 class Libraries:
-    """The libraries, and what `rt ci` proved of them, by the sums of the texts and of the libraries below: nothing where the kit
-    has no such sums."""
+    """The libraries, and what `rt ci` proved of them, by the sums of the texts and of the libraries below: nothing
+    where the kit has no such sums."""
 
     def __init__(self, crates, keeps=False):
         """keeps: the proofs are kept too, which `rt ci` does not do."""
@@ -34,7 +35,8 @@ class Libraries:
         return status, how
 
     def take_program(self, program):
-        """Gives the program what `rt ci` compiled of the same, over the libraries as they are built, and returns whether it could."""
+        """Gives the program what `rt ci` compiled of the same, over the libraries as they are built, and returns
+        whether it could."""
         return self.of_ci is not None and self.of_ci.give(program, False, self.of_ci.key(program))
 
     def _build(self, crate, jobs):

@@ -1,5 +1,5 @@
-"""A second reading of RFC 9309, in another language than the program's and in another way: whole texts by regular expressions,
-no index and no order of rules."""
+"""A second reading of RFC 9309, in another language than the program's and in another way: whole texts by regular
+expressions, no index and no order of rules."""
 import re
 
 TEXT_LIMIT = 512_000

@@ -18,7 +18,8 @@ SECONDS = 30
 
 class Server:
     """The built program as a line server, from its first line on, at a port or at a socket. It can be started without a
-    standard stream, as `>&-`; then nothing is read of it, and the port must be told. Its address space can be limited."""
+    standard stream, as `>&-`; then nothing is read of it, and the port must be told. Its address space can be
+    limited."""
 
     program = BUILT
 
@@ -63,6 +64,37 @@ class Server:
         return resident(self.process.pid)
 
 
+class HttpServer(Server):
+    """A server with a front for HTTP, which the line after LISTEN names: at a port, or at the path of a socket. It is
+    endless unless it is given how many line clients come."""
+
+    def __init__(self, *words, path=None, http=0, **how):
+        place = ["--http-socket", path] if path else ["--http", str(http)]
+        words = [*place, *words] if "--connections" in words else [*place, "--endless", *words]
+        super().__init__(*words, **how)
+        self.http_path = path
+        line = self.process.stdout.readline()
+        found = re.fullmatch(rb"HTTP 127\.0\.0\.1:(\d+)\n", line)
+        if path and line == f"HTTP {path}\n".encode():
+            return
+        if path or not found:
+            self.process.kill()
+            raise AssertionError(f"its second line is {line!r}; {short(self.process.communicate()[1])}")
+        self.http = int(found[1])
+
+    @property
+    def front(self):
+        """Where the front is, as the clients of examples take it."""
+        return self.http_path or str(self.http)
+
+    def proxy(self, user="foobot:x"):
+        return f"http://{user}@{HOST}:{self.http}/"
+
+    def url(self, page):
+        """Returns where a page is in path form."""
+        return f"http://{HOST}:{self.http}/{page}"
+
+
 class Restarted:
     """A server that is killed, and started again later at the same place: a port, or the path of a socket."""
 
@@ -91,6 +123,18 @@ class Restarted:
         self.kill()
         self.timer = threading.Timer(seconds, self.start)
         self.timer.start()
+
+
+class RestartedFront(Restarted):
+    """The same of a server with a front, at the same port or at the path of a socket."""
+
+    def __init__(self, *words, path=None):
+        self.path, self.http = path, 0 if path else free_port()
+        super().__init__(*words)
+        self.front = self.server.front
+
+    def start(self):
+        self.server = HttpServer(*self.words, port=self.place, path=self.path, http=self.http)
 
 
 class Session:
@@ -133,7 +177,7 @@ class Session:
         return bool(piece)
 
     def lines(self, count):
-        """Returns so many lines of the replies, or those before the end."""
+        """Returns that many lines of the replies, or those before the end."""
         while self.unread.count(b"\n") < count and self._read():
             pass
         *lines, self.unread = self.unread.split(b"\n", count)

@@ -20,8 +20,8 @@ def reset(peer):
 
 
 def free_port():
-    """Returns a port at which nothing listens, below those that the system gives to others. Scripts that run side by side draw
-    from a hundred each, the first of which CRAWLGATE_PORTS names."""
+    """Returns a port at which nothing listens, below those that the system gives to others. Scripts that run side by
+    side draw from a hundred each, the first of which CRAWLGATE_PORTS names."""
     first = int(os.environ.get("CRAWLGATE_PORTS", 10_000 + os.getpid() % 200 * 100))
     for port in random.sample(range(first, first + 100), 100):
         try:
@@ -32,11 +32,19 @@ def free_port():
     raise OSError(f"no port from {first} on is free")
 
 
+def free_ports(count):
+    """Returns different ports at which nothing listens."""
+    found = set()
+    while len(found) < count:
+        found.add(free_port())
+    return found
+
+
 class Requests:
     """What takes connections at a port of its own, reads the head of each one's request, and has it answered."""
 
-    def __init__(self, host=HOST):
-        self.listener = socket.create_server((host, 0), backlog=1024)
+    def __init__(self, host=HOST, port=0):
+        self.listener = socket.create_server((host, port), backlog=1024)
         self.authority = f"{host}:{self.listener.getsockname()[1]}"
         threading.Thread(target=self._listen, daemon=True).start()
 
@@ -66,12 +74,12 @@ class Requests:
 
 
 class Site(Requests):
-    """A site: responses by their targets, and 404 for every other target, the robots.txt too. A response may be behind
+    """A site: responses by their targets, and 404 for every other target, the robots.txt too. A response may come after
     seconds to wait for it. It keeps the targets that it was asked for."""
 
-    def __init__(self, pages, host=HOST):
+    def __init__(self, pages, host=HOST, port=0):
         self.pages, self.asked = pages, []
-        super().__init__(host)
+        super().__init__(host, port)
 
     def page(self, target):
         return self.pages.get(target, response(404))
@@ -86,12 +94,12 @@ class Site(Requests):
 
 
 class Late(Requests):
-    """A site whose robots.txt is answered once an event is set, or after some seconds, and its pages at once. It keeps whether
-    the event was set by then."""
+    """A site whose robots.txt is answered once an event is set, or after some seconds, and its pages at once. It keeps
+    whether the event was set by then."""
 
-    def __init__(self, event, seconds, page=b"late"):
+    def __init__(self, event, seconds, page=b"late", host=HOST):
         self.event, self.seconds, self.page, self.in_time = event, seconds, page, []
-        super().__init__()
+        super().__init__(host)
 
     def answer(self, peer, head, target):
         if target == "/robots.txt":

@@ -1,13 +1,14 @@
 #!/usr/bin/env python3
-"""A stand-in for haproxy by packaging/haproxy.cfg, for checks on machines that have none: the program that opens TLS for
-`crawlgate --tls-by`.
+"""A stand-in for haproxy by packaging/haproxy.cfg, for checks on machines that have none: the program that opens TLS
+for `crawlgate --tls-by`.
 
 usage: stand_in.py AUTHORITIES [PORT]
 
 It writes the address and the port of 127.0.0.1 at which it listens. Of each connection it reads a header as the PROXY
-protocol, version 2, has it in sections 2.2 and 2.2.2, opens TLS to the address there, checks the certificate for the name
-there by the file of authorities, and relays octets both ways. What is no such header, and a site with no good TLS, ends the
-connection with no octet; a line on standard error says why. It is no program for the open web: it has no bounds.
+protocol, version 2, has it in sections 2.2 and 2.2.2, opens TLS to the address there, checks the certificate for the
+name there by the file of authorities, and relays octets both ways. What is no such header, and a site with no good TLS,
+ends the connection with no octet; a line on standard error says why. It is no program for the open web: it has no
+bounds.
 """
 import asyncio
 import socket
@@ -28,7 +29,7 @@ PIECE = 65_536
 
 
 def name_of(fields):
-    """Returns the name of the site in the fields behind the addresses."""
+    """Returns the name of the site in the fields after the addresses."""
     names = []
     while fields:
         if len(fields) < 3:

@@ -63,7 +63,7 @@ def context_of(folder, kind):
 
 
 def old_context(folder):
-    """Returns a context with the good certificate that knows TLS 1.1 alone, whatever the system's policy is."""
+    """Returns a context with the good certificate that knows only TLS 1.1, whatever the system's policy is."""
     context = context_of(folder, "good")
     context.set_ciphers("DEFAULT:@SECLEVEL=0")
     context.minimum_version = context.maximum_version = ssl.TLSVersion.TLSv1_1

@@ -2,6 +2,7 @@
 import base64
 import hashlib
 import re
+from collections import namedtuple
 
 from lib.cases import same
 
@@ -9,12 +10,16 @@ URI, ID, DIGEST = r"https?://[!-~]+", r"<urn:uuid:[0-9a-f-]{36}>", r"sha256:[A-Z
 DATE, HTTP = r"\d{4}-\d\d-\d\dT\d\d:\d\d:\d\dZ", r"application/http; msgtype=response"
 NEEDED = {"WARC-Record-ID": ID, "WARC-Date": DATE, "WARC-Block-Digest": DIGEST, "Content-Length": r"\d+"}
 OF_KIND = {
-    "warcinfo": {"Content-Type": "application/warc-fields", "WARC-Filename": r"\d{12}\.warc"},
+    "warcinfo": {"Content-Type": "application/warc-fields", "WARC-Filename": r"\d{5}\.warc"},
     "response": {
         "Content-Type": HTTP, "WARC-Target-URI": URI, "WARC-Warcinfo-ID": ID, "WARC-Payload-Digest": DIGEST,
         "WARC-Crawlgate-Permit": r"\d+", "WARC-Crawlgate-Reason": r"line \d+|norule|robots|open",
     },
 }
+
+
+# a response record: its fields, and the status, the fields and the body of the response
+Response = namedtuple("Response", "fields status head body")
 
 
 def digest(octets):
@@ -48,14 +53,16 @@ def records_of(octets):
 
 
 def pages_of(octets):
-    """Returns the fields, the status and the body of each response record."""
+    """Returns what each response record has."""
     found = []
     for fields, block in records_of(octets)[1:]:
         head, end, body = block.partition(b"\r\n\r\n")
-        status = re.fullmatch(rb"HTTP/1\.1 (\d{3}) ", head)
-        assert status and end, f"no head: {head!r}"
+        first, *lines = head.decode("latin-1").split("\r\n")
+        status = re.fullmatch(r"HTTP/1\.1 (\d{3}) ", first)
+        parts = [re.fullmatch(r"([a-z-]+): (.*)", it) for it in lines]
+        assert status and end and all(parts), f"no head: {head!r}"
         same(digest(body), fields["WARC-Payload-Digest"])
-        found.append((fields, int(status[1]), body))
+        found.append(Response(fields, int(status[1]), [(it[1], it[2]) for it in parts], body))
     return found
 
 

@@ -33,7 +33,7 @@ class Edit:
             raise BadEdit("it has no pair of 'old:' and 'new:'")
         if not self.file.startswith("src/") or not os.path.isfile(f"{folder}/{self.file}"):
             raise BadEdit(f"there is no {self.file}")
-        # where the edit's text stands in no function, other functions may fail with it, so it is tried alone
+        # where the edit's text stands in no function, other functions may fail with it, so it is tried by itself
         text = read(f"{folder}/{self.file}")
         self.apply(text)
         place = function_at(text, text.index(self.pairs[0][0]))

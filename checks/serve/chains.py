@@ -1,5 +1,5 @@
-"""Cases of checks/serve with a --journal of several files: a start believes neither the name nor the base of the last one,
-which it compares with the file before."""
+"""Cases of checks/serve with a --journal of several files: a start believes neither the name nor the base of the last
+one, which it compares with the file before."""
 import contextlib
 import os
 import subprocess
@@ -38,7 +38,7 @@ def begins(folder):
     """Returns whether a server starts in the folder, which is then killed, and what it tells. One that does not start
     leaves the files as they were, with status 3."""
     before = contents(folder)
-    words = [Server.program, "serve", "--port", "0", "--journal", f"{folder}/journal"]
+    words = [Server.program, "serve", "--port", "0", "--endless", "--journal", f"{folder}/journal"]
     with subprocess.Popen(words, stdin=subprocess.DEVNULL, stdout=subprocess.PIPE, stderr=subprocess.PIPE) as process:
         has_begun = process.stdout.readline() != b""
         process.kill() if has_begun else process.wait(SECONDS)
@@ -50,7 +50,7 @@ def begins(folder):
 
 
 def is_sound(folder):
-    """A start is refused, or the folder's audit is OK behind it. Returns whether it was refused."""
+    """A start is refused, or the folder's audit is OK after it. Returns whether it was refused."""
     has_begun, told = begins(folder)
     if has_begun:
         found = audit(text_of(f"{folder}/journal"))
@@ -59,7 +59,7 @@ def is_sound(folder):
 
 
 def a_base_is_compared_with_the_file_before():
-    """Each octet of the last file's base is changed in turn, behind the file before it: no start goes on."""
+    """Each octet of the last file's base is changed in turn, after the file before it: no start goes on."""
     for at, letter in enumerate(BASE):
         for other in {chr(ord(letter) ^ 1), " ", "\n"} - {letter}:
             with journal({FIRST: BEFORE, SECOND: BASE[:at] + other + LAST[at + 1 :]}) as folder:
@@ -140,7 +140,10 @@ def a_torn_last_line_behind_a_file():
     for size in range(len(BASE), len(LAST) + 1):
         with journal({FIRST: BEFORE, SECOND: LAST[:size]}) as folder:
             torn = size - len(BASE) if size < len(LAST) else 0
-            told = f'crawlgate: journal: "{folder}/journal/{SECOND}" ends in a torn line, whose {torn} octets are removed\n'
+            told = (
+                f'crawlgate: journal: "{folder}/journal/{SECOND}" ends in a torn line, whose {torn} octets are '
+                f'removed\n'
+            )
             same(begins(folder), (True, told if torn else ""))
             same(audit(text_of(f"{folder}/journal"))[:3], "OK ")
             same(contents(folder)[FIRST].decode(), BEFORE)
@@ -154,7 +157,8 @@ def a_torn_last_line_behind_a_file():
 
 
 def files_of_several_servers():
-    """What servers wrote one after the other goes on, and a seal between them, while the file before is changed by none."""
+    """What servers wrote one after the other goes on, and a seal between them, while the file before is changed by
+    none."""
     with tempfile.TemporaryDirectory() as folder:
         texts = {}
         for turn in range(1, 5):

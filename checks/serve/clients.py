@@ -1,5 +1,5 @@
 """Cases of checks/serve with the clients of examples/clients, and those clients for other cases."""
-import importlib.util
+import importlib
 import os
 import subprocess
 import sys
@@ -25,10 +25,9 @@ connection.getresponse().read()
 
 def python_client():
     """Returns the module of the client in Python."""
-    found = importlib.util.spec_from_file_location("crawlgate", f"{CLIENTS}/crawlgate.py")
-    client = importlib.util.module_from_spec(found)
-    found.loader.exec_module(client)
-    return client
+    if CLIENTS not in sys.path:
+        sys.path.append(CLIENTS)
+    return importlib.import_module("crawlgate")
 
 
 def client_of(kind, server, *words, **environment):
@@ -84,16 +83,20 @@ def client_in_bash():
     x, private = site.url("/x"), ruled.url("/private")
     with Server("--slots", "1") as server:
         rows = [
-            (["fetch", "foobot", ruled.url("/moved")], (OCTETS, b"PAGE norule 302 0 whole\nPAGE norule 200 768 whole\n", 0)),
-            (["fetch", "foobot", private], (b"", f"NO {ruled.authority} line 2\n".encode(), 1)),
-            (["fetch", "foobot", "https://a.example/"], (b"", b"crawlgate.sh: ERR url scheme\n", 1)),
             (["run", "foobot", x, "echo", "page"], (b"page\n", b"", 0)),
             (["run", "foobot", x, "echo", "{}", x, "-{}"], (f"{x} {x} -{{}}\n".encode(), b"", 0)),
-            (["run", "foobot", site.url("/y/../x#z"), "sh", "-c", 'echo "$CRAWLGATE_URL"'], (f"{x}\n".encode(), b"", 0)),
+            (
+                ["run", "foobot", site.url("/y/../x#z"), "sh", "-c", 'echo "$CRAWLGATE_URL"'],
+                (f"{x}\n".encode(), b"", 0),
+            ),
             (["run", "foobot", x, "sh", "-c", "exit 7"], (b"", b"", 7)),
-            (["run", "foobot", private, "echo", "page"], (b"", f"crawlgate.sh: NO {ruled.authority} line 2\n".encode(), 1)),
+            (
+                ["run", "foobot", private, "echo", "page"],
+                (b"", f"crawlgate.sh: NO {ruled.authority} line 2\n".encode(), 1),
+            ),
             (["run", "foobot", f"{x}\nQUIT", "echo"], (b"", f"crawlgate.sh: no URL: {x}\nQUIT\n".encode(), 2)),
-            (["fetch", "foobot", x], (b"hello", b"PAGE open 200 5 whole\n", 0)),
+            (["run", "foobot", "https://a.example/", "echo"], (b"", b"crawlgate.sh: ERR url scheme\n", 1)),
+            (["fetch", "foobot", x, "echo"], (b"", b"crawlgate.sh: fetch takes a token and a URL\n", 2)),
             (["seal", "foobot", x], (b"", b"crawlgate.sh: seal takes nothing\n", 2)),
         ]
         for words, wanted in rows:
@@ -116,7 +119,9 @@ def fetches_what_was_decided():
                 if kind == "sh":
                     client_of("sh", server, "run", "foobot", text, sys.executable, "-c", FETCH, "{}")
                 else:
-                    with python_client().Gate(HOST, server.port, SECONDS) as gate, gate.permit("foobot", text) as permit:
+                    with python_client().Gate(
+                        HOST, server.port, SECONDS,
+                    ) as gate, gate.permit("foobot", text) as permit:
                         permit.open(SECONDS).read()
         asked = [f"/@{ruled.authority}/private", "/x", "/moved"]
         same([it for it in site.asked if it != "/robots.txt"], asked)
@@ -130,14 +135,20 @@ def client_looks_inside():
     site = open_site()
     with Server() as server, tempfile.TemporaryDirectory() as folder:
         with python_client().Gate(HOST, server.port, SECONDS) as gate, gate.permit("foobot", site.url("/x")):
-            told = {"entries": 5, "ever": 5, "starts": 1, "permits": 0, "running": 1, "turns": 0, "authorities": 1, "room": 999_994,
-                    "connections": 1, "clients": 1}
+            told = {"entries": 5, "ever": 5, "starts": 1, "permits": 0, "running": 1, "turns": 0, "authorities": 1,
+                    "room": 999_994,
+                    "connections": 1, "clients": 1, "denied_line": 0, "denied_closed": 0, "denied_unknown": 1,
+                    "denied_expired": 0,
+                    "denied_spent": 0, "failed_pages": 0, "failed_robots": 0, "journal_octets": 0, "journal_syncs": 0,
+                    "slowest_sync": 0}
             same(gate.info(), told)
-            subprocess.run([f"{CLIENTS}/prometheus.py", str(server.port), f"{folder}/gate.prom"], check=True, timeout=SECONDS)
+            subprocess.run(
+                [f"{CLIENTS}/prometheus.py", str(server.port), f"{folder}/gate.prom"], check=True, timeout=SECONDS,
+            )
         with open(f"{folder}/gate.prom", encoding="utf-8") as file:
             text = file.read()
         same(os.listdir(folder), ["gate.prom"])
-        same(text.count("\n"), 33)
+        same(text.count("\n"), 63)
         assert "# TYPE crawlgate_up gauge\ncrawlgate_up 1\n" in text, text
         assert "# TYPE crawlgate_starts_total counter\ncrawlgate_starts_total 1\n" in text, text
         assert "# TYPE crawlgate_room gauge\ncrawlgate_room 999994\n" in text, text
@@ -192,7 +203,9 @@ def clients_wait_for_a_robots_fetch():
             if kind == "sh":
                 same(client_of("sh", server, "run", "foobot", site.url("/x"), "echo", "page"), (b"page\n", b"", 0))
             else:
-                with python_client().Gate(HOST, server.port, SECONDS) as gate, gate.permit("foobot", site.url("/x")) as permit:
+                with python_client().Gate(
+                    HOST, server.port, SECONDS,
+                ) as gate, gate.permit("foobot", site.url("/x")) as permit:
                     same(permit.reason, "open")
             same(other.lines(1), [f"TAKEN {site.authority} open"])
         same(site.asked.count("/robots.txt"), 1)
@@ -201,6 +214,7 @@ def clients_wait_for_a_robots_fetch():
 
 
 CASES = [
-    client_in_python, client_in_bash, client_looks_inside, client_goes_on, closed_site_is_tried_again, fetches_what_was_decided,
+    client_in_python, client_in_bash, client_looks_inside, client_goes_on, closed_site_is_tried_again,
+    fetches_what_was_decided,
     clients_wait_for_a_robots_fetch,
 ]

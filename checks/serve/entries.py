@@ -1,4 +1,5 @@
-"""Cases of checks/serve that read a journal's entries: what each line of a session enters, and what is refused enters nothing."""
+"""Cases of checks/serve that read a journal's entries: what each line of a session enters, and what is refused enters
+nothing."""
 import os
 import socket
 import tempfile
@@ -11,7 +12,7 @@ from sessions import sealed
 
 
 def letters(server, before=0):
-    """Returns the letters of the entries in a journal of one file, behind so many."""
+    """Returns the letters of the entries in a journal of one file, after that many."""
     return "".join(line[0] for line in server.text().splitlines()[1 + before :])
 
 
@@ -36,16 +37,32 @@ User-Agent: quxbot
 
 
 def fetches_are_entered():
-    """What a fetch tells of each hop, and its entries in order: a grant, a start and an end for each page. A site's robots.txt
-    is fetched before its first page, once."""
+    """What a fetch tells of each hop, and its entries in order: a grant, a start and an end for each page. A site's
+    robots.txt is fetched before its first page, once."""
     ruled = Site({"/robots.txt": response(200, b"User-agent: *\nDisallow: /\n"), "/x": response(200, b"shut")})
-    behind = Site({"/robots.txt": response(301, b"", "Location: /rules"), "/rules": response(200, b"User-agent: foobot\nAllow: /x\n"), "/x": response(200, b"hi")})
+    behind = Site(
+        {
+            "/robots.txt": response(301, b"", "Location: /rules"),
+            "/rules": response(200, b"User-agent: foobot\nAllow: /x\n"), "/x": response(200, b"hi"),
+        }
+    )
     coded = Site({"/robots.txt": response(200, b"x", "Content-Encoding: gzip"), "/x": response(200, b"hi")})
-    example = Site({"/robots.txt": response(200, EXAMPLE), "/example/page.html": response(302, b"", "Location: /x"), "/publications/": response(200, b"hello")})
+    example = Site(
+        {
+            "/robots.txt": response(200, EXAMPLE), "/example/page.html": response(302, b"", "Location: /x"),
+            "/publications/": response(200, b"hello"),
+        }
+    )
     site = open_site({
-        "/gone": response(410, b"no"), "/to": response(302, b"x", "Location: /x"), "/twice": response(307, b"", "Location: to"),
-        "/loop": response(301, b"", "Location: loop"), "/nowhere": response(303), "/secure": response(302, b"", "Location: https://a.example/x"),
-        "/away": response(308, b"", f"Location: //{ruled.authority}/x"), "/same": response(304, b"", "Location: /x"), "/none": b"",
+        "/gone": response(410, b"no"), "/to": response(
+            302, b"x", "Location: /x",
+        ), "/twice": response(307, b"", "Location: to"),
+        "/loop": response(301, b"", "Location: loop"), "/nowhere": response(303), "/secure": response(
+            302, b"", "Location: https://a.example/x",
+        ),
+        "/away": response(
+            308, b"", f"Location: //{ruled.authority}/x",
+        ), "/same": response(304, b"", "Location: /x"), "/none": b"",
     })
     with socket.create_server((HOST, 0)) as listener:
         down = f"{HOST}:{listener.getsockname()[1]}"
@@ -53,7 +70,10 @@ def fetches_are_entered():
         ("foobot", site.url("/x"), ["PAGE open 200 5 whole"], b"hello", "BAGSF"),
         ("foobot", site.url("/gone"), ["PAGE open 410 2 whole"], b"no", "GSF"),
         ("foobot", site.url("/to"), ["PAGE open 302 1 whole", "PAGE open 200 5 whole"], b"hello", "GSFGSF"),
-        ("foobot", site.url("/twice"), ["PAGE open 307 0 whole", "PAGE open 302 1 whole", "PAGE open 200 5 whole"], b"hello", "GSFGSFGSF"),
+        (
+            "foobot", site.url("/twice"), ["PAGE open 307 0 whole", "PAGE open 302 1 whole", "PAGE open 200 5 whole"],
+            b"hello", "GSFGSFGSF",
+        ),
         ("foobot", site.url("/loop"), ["PAGE open 301 0 whole"] * 6 + ["STOP toomany"], b"", "GSF" * 6),
         ("foobot", site.url("/nowhere"), ["PAGE open 303 0 whole", "STOP redirect"], b"", "GSF"),
         ("foobot", site.url("/secure"), ["PAGE open 302 0 whole", "STOP scheme"], b"", "GSF"),
@@ -64,13 +84,20 @@ def fetches_are_entered():
         ("foobot", behind.url("/x"), ["PAGE line 2 200 2 whole"], b"hi", "BAGSF"),
         ("foobot", f"http://{down}/x", [f"NO {down} closed"], b"", "BAN"),
         ("foobot", coded.url("/x"), [f"NO {coded.authority} closed"], b"", "BAN"),
-        ("foobot", example.url("/example/page.html"), ["PAGE line 8 302 0 whole", f"NO {example.authority} line 7"], b"", "BAGSFN"),
+        (
+            "foobot", example.url("/example/page.html"), ["PAGE line 8 302 0 whole", f"NO {example.authority} line 7"],
+            b"", "BAGSFN",
+        ),
         ("otherbot", example.url("/publications/"), ["PAGE line 4 200 5 whole"], b"hello", "GSF"),
     ]
-    with tempfile.TemporaryDirectory() as folder, Recorded(folder, "--journal-sync", "never") as server, Session(server) as it:
+    with tempfile.TemporaryDirectory() as folder, Recorded(
+        folder, "--journal-sync", "never",
+    ) as server, Session(server) as it:
         entries = 0
         for token, url, hops, body, wanted in rows:
-            told = "".join(f"HOP {number} {hop}\n" for number, hop in enumerate(hops, 1)) + f"BODY {len(body)}\n{body.decode()}\n"
+            told = "".join(
+                f"HOP {number} {hop}\n" for number, hop in enumerate(hops, 1)
+            ) + f"BODY {len(body)}\n{body.decode()}\n"
             it.send(f"FETCH {token} {url}\n".encode())
             same((url, "".join(f"{line}\n" for line in it.lines(told.count("\n")))), (url, told))
             same((url, letters(server, entries)), (url, wanted))
@@ -78,8 +105,8 @@ def fetches_are_entered():
 
 
 def sessions_are_entered():
-    """What a session leaves out is given back, what is not out is refused, and a look makes no entry: the replies to its
-    lines, and what an audit says of its entries."""
+    """What a session leaves out is given back, what is not out is refused, and a look makes no entry: the replies to
+    its lines, and what an audit says of its entries."""
     site, ruled = open_site(), site_with_rules()
     a, x, b = site.authority, site.url("/x"), ruled.authority
     named = f"localhost:{a.partition(':')[2]}"
@@ -88,21 +115,38 @@ def sessions_are_entered():
          [f"REFRESH {a}", f"ASK foobot {x}", f"ASK foobot {site.url('/y')}", f"START 65536 foobot {x}"],
          [f"TAKEN {a} open", "PERMIT 65536", "PERMIT 65537", "GO 65536 open"], (7, 1)),
         ("what is not out",
-         [f"REFRESH {a}", f"ASK foobot {x}", f"START 65536 foobot {site.url('/y')}", f"START 65536 barbot {x}", f"START 1 foobot {x}",
+         [f"REFRESH {a}", f"ASK foobot {x}", f"START 65536 foobot {site.url('/y')}", f"START 65536 barbot {x}",
+          f"START 1 foobot {x}",
           "BACK 1", "DONE 65536", "BACK 65536", "BACK 65536"],
-         [f"TAKEN {a} open", "PERMIT 65536", f"NO {a} spent", f"NO {a} spent", f"NO {a} spent", "ERR notout", "ERR notout", "BACK 65536", "ERR notout"],
+         [
+             f"TAKEN {a} open", "PERMIT 65536", f"NO {a} spent", f"NO {a} spent", f"NO {a} spent", "ERR notout",
+             "ERR notout", "BACK 65536", "ERR notout",
+         ],
          (4, 0)),
         ("a permit is started once, and ends once",
-         [f"REFRESH {a}", f"ASK foobot {x}", f"START 65536 foobot {x}", f"START 65536 foobot {x}", "BACK 65536", "DONE 65536", "DONE 65536"],
-         [f"TAKEN {a} open", "PERMIT 65536", "GO 65536 open", f"NO {a} spent", "ERR notout", "DONE 65536", "ERR notout"], (5, 1)),
+         [
+             f"REFRESH {a}", f"ASK foobot {x}", f"START 65536 foobot {x}", f"START 65536 foobot {x}", "BACK 65536",
+             "DONE 65536", "DONE 65536",
+         ],
+         [
+             f"TAKEN {a} open", "PERMIT 65536", "GO 65536 open", f"NO {a} spent", "ERR notout", "DONE 65536",
+             "ERR notout",
+         ], (5, 1)),
         ("states that leave no mark",
          [f"STATE {named}", f"REFRESH {named.upper()}", f"STATE {named}", f"STATE {b}"],
-         [f"STATE {named} unknown idle", f"TAKEN {named} open", f"STATE {named} open idle", f"STATE {b} unknown idle"], (2, 0)),
+         [
+             f"STATE {named} unknown idle", f"TAKEN {named} open", f"STATE {named} open idle",
+             f"STATE {b} unknown idle",
+         ], (2, 0)),
         ("an answer that is refreshed",
-         [f"REFRESH {b}", f"REFRESH {b}", f"ASK foobot {ruled.url('/private')}"], [f"TAKEN {b} rules", f"TAKEN {b} rules", f"NO {b} line 2"], (5, 0)),
+         [
+             f"REFRESH {b}", f"REFRESH {b}", f"ASK foobot {ruled.url('/private')}",
+         ], [f"TAKEN {b} rules", f"TAKEN {b} rules", f"NO {b} line 2"], (5, 0)),
     ]
     for name, lines, replies, (events, starts) in rows:
-        with tempfile.TemporaryDirectory() as folder, Recorded(folder, "--connections", "1", "--journal-sync", "never") as server:
+        with tempfile.TemporaryDirectory() as folder, Recorded(
+            folder, "--connections", "1", "--journal-sync", "never",
+        ) as server:
             with Session(server) as it:
                 same((name, it.say_all([*lines, "QUIT"])), (name, [*replies, "BYE"]))
             same((name, server.end()), (name, (f"SERVED connections 1 events {events}\n".encode(), 0, b"")))
@@ -110,7 +154,8 @@ def sessions_are_entered():
 
 
 def served_with(folder, words, text):
-    """A server without a journal, or with one that goes on from a text of one entry, whose log then is as long as may be."""
+    """A server without a journal, or with one that goes on from a text of one entry, whose log then is as long as may
+    be."""
     if not text:
         return Server(*words)
     os.makedirs(f"{folder}/journal")
@@ -122,14 +167,16 @@ def served_with(folder, words, text):
 def fetches_that_the_gate_refuses():
     """A gate whose log, permits, authorities or places are used up: the hop says so, and what was begun has ended."""
     other = open_site()
-    site = open_site({"/to": response(302, b"x", "Location: /x"), "/away": response(308, b"", f"Location: {other.url('/x')}")})
+    site = open_site(
+        {"/to": response(302, b"x", "Location: /x"), "/away": response(308, b"", f"Location: {other.url('/x')}")}
+    )
     a, last = site.authority, 281474976710655
     base = f"V 3\nT 1 0 0 100\nL 0 {last - 1}\nE\n"
     rows = [
         (["--log", "1"], None, "/x", ["ERR log"], ""),
         (["--log", "7"], None, "/to", ["PAGE open 302 1 whole", "ERR log"], "BAGSF"),
         (["--authorities", "1"], None, "/away", ["PAGE open 308 0 whole", "ERR authorities"], "BAGSF"),
-        # (the one slot is spent for good behind the last generation)
+        # (the one slot is spent for good after the last generation)
         (["--slots", "1"], base, "/to", ["PAGE open 302 1 whole", "ERR permits"], "BAGSF"),
     ]
     for words, text, target, hops, entries in rows:

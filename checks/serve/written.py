@@ -1,4 +1,5 @@
-"""Cases of checks/serve: what the clients of examples/clients send to a site is the URL that was decided, or nothing is sent."""
+"""Cases of checks/serve: what the clients of examples/clients send to a site is the URL that was decided, or nothing is
+sent."""
 import http.client
 import io
 import random
@@ -33,15 +34,17 @@ LINKS = ["/[p-p]rivate/x", "/x?{private,open}", "/pub[1-5]", "/{x}"]
 
 
 def curl_reads_no_patterns():
-    """A site has links that are patterns of curl, some of denied pages. Each start is one request for the page that was decided;
-    where curl would read a pattern there is neither, and no permit is asked for."""
+    """A site has links that are patterns of curl, some of denied pages. Each start is one request for the page that was
+    decided; where curl would read a pattern there is neither, and no permit is asked for."""
     if not shutil.which("curl"):
         raise Skipped("there is no curl")
     site = open_site({"/robots.txt": response(200, b"user-agent: *\ndisallow: /private/\ndisallow: /x?private\n")})
     with Server() as server, Session(server) as gate:
         same(gate.say(f"REFRESH {site.authority}"), f"TAKEN {site.authority} rules")
         wanted, starts = [], 0
-        for (name, options, is_exact), before in [(row, before) for row in OPTIONS for before in ([], ["timeout", "20"])]:
+        for (name, options, is_exact), before in [
+            (row, before) for row in OPTIONS for before in ([], ["timeout", "20"])
+        ]:
             for link in LINKS + ["/x"]:
                 words = [*before, "curl", *options, "--output", "/dev/null", "{}"]
                 written = gate.say(f"URL {site.url(link)}").split(" ")[1]
@@ -77,7 +80,8 @@ class Wire:
 
 
 def sent_by_urllib(client, url):
-    """Returns the URL for which the client asks by urllib, from what it writes to the connection, or None where it refuses."""
+    """Returns the URL for which the client asks by urllib, from what it writes to the connection, or None where it
+    refuses."""
     peers = []
 
     def connect(self):

@@ -1,6 +1,6 @@
-"""What documents cite: each definition, function, clause, type and case that one names in backticks must be there. In the
-tables of claims a definition is looked for among definitions, and a clause among those of the functions before it; elsewhere a
-name is looked for among all names of the repository."""
+"""What documents cite: each definition, function, clause, type and case that one names in backticks must be there. In
+the lists of claims a definition is looked for among definitions, and a clause among those of the functions before it;
+elsewhere a name is looked for among all names of the repository."""
 import os
 import re
 
@@ -8,13 +8,15 @@ from definitions import WORD, ghost_fields, ghosts_of
 from names import files_of
 from sources import TYPES, name_of, owner_of, parts_of, read, trait_and_target
 
-TABLES, OTHERS = ("docs/PROOFS.md", "docs/PARTS.md"), ("SECURITY.md", "docs/ARCHITECTURE.md")
+LISTED, OTHERS = ("docs/PROOFS.md", "docs/PARTS.md"), ("SECURITY.md", "docs/ARCHITECTURE.md")
 # what others than this repository define: std, and the language itself
 FOREIGN = {"Abort", "Drop", "ensures", "requires"}
 SPOKEN = ("checks", "examples", "bench", "packaging")
 IS_NAME = re.compile(r"(?:\w+::)*(?:[A-Z]\w*[a-z]\w*|\w*[a-z]\w*_\w+)|(?:\w+::)+\w+")
 CASE = re.compile(r"(?<![\w/.<])[a-z]\w*_\w+(?![\w/.])")
 QUOTED = re.compile(r"`([^`]+)`")
+# a claim of a list: its definitions in parentheses, and its contracts
+CLAIM = re.compile(r"- .*? \(([^()]*)\): (.*)")
 
 
 class Names:
@@ -91,7 +93,9 @@ class Names:
     def lemmas(self):
         """Returns what proofs define."""
         if self.proved is None:
-            texts = [read(file) for crate in self.crates for file in files_of(f"{self.root}/crates/{crate}/proofs", ".antt")]
+            texts = [
+                read(file) for crate in self.crates for file in files_of(f"{self.root}/crates/{crate}/proofs", ".antt")
+            ]
             self.proved = {it for text in texts for it in re.findall(r"(?m)^(?:[a-z]+ )*(\w+)(?= *[:({])", text)}
         return self.proved
 
@@ -115,16 +119,16 @@ def spoken(root):
     return words
 
 
-class Table:
-    """The rows of claims of a document: each cites definitions and contracts."""
+class Claims:
+    """The claims of a document: each cites definitions and contracts."""
 
     def __init__(self, names, document):
         self.names, self.document, self.faults, self.count = names, document, [], 0
-        # the functions of all rows, and those of the row before; the type that was named last
+        # the functions of all claims, and those of the claim before; the type that was named last
         self.cited, self.above, self.owner, self.defined = [], [], "", set()
 
-    def row(self, number, definition, contract):
-        """Looks up what a row cites."""
+    def claim(self, number, definition, contract):
+        """Looks up what a claim cites."""
         place = f"{self.document}:{number}"
         for it in QUOTED.findall(definition):
             self.told(place, it, self.is_definition(it), "no such definition")
@@ -179,17 +183,12 @@ def is_file(names, path):
     return any(os.path.exists(f"{names.root}/{it}") for it in places)
 
 
-def rows_of(text):
-    """Yields each row of a table of claims: its line's number, and its cells behind the claim."""
-    is_claims = False
+def claims_of(text):
+    """Yields each claim of a document: its line's number, its definitions, and its contracts."""
     for number, line in enumerate(text.split("\n"), 1):
-        cells = [it.strip() for it in line.strip("|").split("|")]
-        if not line.startswith("|"):
-            is_claims = False
-        elif cells[:3] == ["claim", "definition", "contract"]:
-            is_claims = True
-        elif is_claims and not set(line) <= set("|- "):
-            yield number, cells[1], cells[2]
+        found = CLAIM.fullmatch(line)
+        if found:
+            yield number, found[1], found[2]
 
 
 def named(document, text):
@@ -204,8 +203,8 @@ def named(document, text):
 
 
 class Cited:
-    """What the documents cite: the faults, how many names were looked up, by crate the functions and types that tables cite,
-    and the definitions."""
+    """What the documents cite: the faults, how many names were looked up, by crate the functions and types that claims
+    cite, and the definitions."""
 
     def __init__(self):
         self.faults, self.count, self.functions, self.definitions = [], 0, {}, set()
@@ -214,16 +213,16 @@ class Cited:
 def compare(root, names):
     """Looks up what the documents cite."""
     cited = Cited()
-    for document in (*TABLES, *OTHERS):
-        text, table = read(f"{root}/{document}"), Table(names, document)
-        for row in rows_of(text) if document in TABLES else ():
-            table.row(*row)
+    for document in (*LISTED, *OTHERS):
+        text, claims = read(f"{root}/{document}"), Claims(names, document)
+        for it in claims_of(text) if document in LISTED else ():
+            claims.claim(*it)
         for number, name in named(document, text):
-            table.told(f"{document}:{number}", name, names.is_there(name), "nothing has this name")
-        cited.faults += list(dict.fromkeys(table.faults))
-        cited.count += table.count
-        cited.definitions |= table.defined
-        for name, found in table.cited:
+            claims.told(f"{document}:{number}", name, names.is_there(name), "nothing has this name")
+        cited.faults += list(dict.fromkeys(claims.faults))
+        cited.count += claims.count
+        cited.definitions |= claims.defined
+        for name, found in claims.cited:
             # (of a type that is cited, what it offers is enough)
             cites = [(names.types[name], name)] if name in names.types else [(it[0], it[3]) for it in found]
             for crate, path in cites:

@@ -45,7 +45,9 @@ class Promised:
             self.members(target, f", of {trait}", item, scope, lambda it: True)
         elif not trait:
             also = self.also
-            self.members(name, "", item, scope, lambda it: is_seen and it.is_public or f"{name}::{name_of(it.head)}" in also)
+            self.members(
+                name, "", item, scope, lambda it: is_seen and it.is_public or f"{name}::{name_of(it.head)}" in also,
+            )
 
     def members(self, owner, of, item, scope, is_chosen):
         inner = Scope(self.definitions, self.name, uses_of(item.items()), scope)
@@ -71,8 +73,8 @@ class Promised:
 
 
 def promised(crates, libraries, definitions, also, roots):
-    """Returns for each library the lines of its clauses, and those of its definitions: which any clause of any library cites,
-    and which are promised or claimed, the roots."""
+    """Returns for each library the lines of its clauses, and those of its definitions: which any clause of any library
+    cites, and which are promised or claimed, the roots."""
     found = {name: Promised(crates[name], name, definitions, also.get(name, set())) for name in libraries}
     sums = definitions.grounds(roots.union(*(it.cites for it in found.values())))
     lines = {name: (promises.lines, []) for name, promises in found.items()}
@@ -83,7 +85,8 @@ def promised(crates, libraries, definitions, also, roots):
 
 def text_of(name, clauses, definitions):
     """Returns the text of contracts/CRATE.txt."""
-    text, last = f"# What {name} promises: clauses of its calls, and the definitions that are cited, each with a sum.\n", None
+    text = f"# What {name} promises: clauses of its calls, and the definitions that are cited, each with a sum.\n"
+    last = None
     for line in clauses:
         owner = re.match(r"[^:]*(?:::\w+)*", line)[0]
         text += "\n" * (owner != last) + f"{line}\n"
@@ -107,7 +110,7 @@ def differences(name, wanted, there):
 
 
 def by_key(lines):
-    """Returns what stands behind what a line is of: a clause, a ghost member or a definition."""
+    """Returns what stands after what a line is of: a clause, a ghost member or a definition."""
     found = {}
     for line in lines:
         key = KEY.match(line)[0] if KEY.match(line) else line

@@ -1,5 +1,5 @@
 """The definitions of this repository: those of `crates/*/specs`, and the types of the sources that contracts see as
-`specs.declared`. Each has its text without comments, in which each name that it cites stands behind the file that it is
+`specs.declared`. Each has its text without comments, in which each name that it cites stands after the file that it is
 imported from, so that an import of another definition of the same name shows too."""
 import hashlib
 import os
@@ -58,8 +58,8 @@ class Spec:
 
 
 class Scope:
-    """What the names of a text mean: each with the definition that it cites, if it is one of this repository, and as it is
-    written behind its file."""
+    """What the names of a text mean: each with the definition that it cites, if it is one of this repository, and as it
+    is written after its file."""
 
     def __init__(self, definitions, crate, uses, beside=None):
         self.names = dict(beside.names) if beside else {}
@@ -77,7 +77,7 @@ class Scope:
             self.operators[name.replace("◌", " ").split()[0]] = found
 
     def cited(self, text):
-        """Returns a text with its names behind their files, and the definitions that it cites."""
+        """Returns a text with its names after their files, and the definitions that it cites."""
         cites = set()
 
         def write(name, found):
@@ -130,7 +130,7 @@ class Definitions:
         return key, f"{before}{path}.{name}" if name else before + path
 
     def text(self, key):
-        """Returns the text of a definition, with its names behind their files, and what it cites; or None."""
+        """Returns the text of a definition, with its names after their files, and what it cites; or None."""
         if key not in self.read:
             self.read[key] = (self.declared if "::" in key[1] else self.defined)(*key)
         return self.read[key]

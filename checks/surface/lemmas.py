@@ -1,5 +1,5 @@
-"""What proofs cite of other crates: of a crate's proofs others use its module CallerLemmas, which is written for them, so that
-its other lemmas may change. past_caller_lemmas.txt has the few that are cited past it."""
+"""What proofs cite of other crates: of a crate's proofs others use its module CallerLemmas, which is written for them,
+so that its other lemmas may change. past_caller_lemmas.txt has the few that are cited past it."""
 import os
 import re
 
@@ -10,7 +10,8 @@ CITED = re.compile(r"\bRattle\.(\w+)\.proofs\.(\w+)|(?<![\w:])(\w+)::proofs::(\w
 
 
 def past(root):
-    """Returns what is cited past CallerLemmas: a crate, the one that it cites, and the module, each with a file that does."""
+    """Returns what is cited past CallerLemmas: a crate, the one that it cites, and the module, each with a file that
+    does."""
     crates, found = set(os.listdir(f"{root}/crates")), {}
     for crate in sorted(crates):
         for part, ending in (("proofs", ".antt"), ("src", ".rt")):

@@ -1,5 +1,5 @@
-"""Names and widths that readers rely on: each type of the product, public or not, has a name of its own, and no line of a
-definition has over 120 columns, nor one of a contract's clauses over 100."""
+"""Names and widths that readers rely on: each type of the product, public or not, has a name of its own, and no line of
+a definition has over 120 columns, nor one of a contract's clauses over 100."""
 import os
 import re
 
@@ -16,13 +16,15 @@ def files_of(folder, ending):
 
 
 def named_twice(root):
-    """Returns a line for each name that two types have. Crates of tests alone are left out."""
+    """Returns a line for each name that two types have. Crates of nothing but tests are left out."""
     owners = {}
     for crate in sorted(os.listdir(f"{root}/crates")):
         for file in files_of(f"{root}/crates/{crate}/src", ".rt"):
             for name in TYPE.findall(read(file)) if not crate.startswith("tests_") else ():
                 owners.setdefault(name, set()).add(os.path.relpath(file, f"{root}/crates"))
-    return [f"{name} is a type of {' and '.join(sorted(files))}" for name, files in sorted(owners.items()) if len(files) > 1]
+    return [
+        f"{name} is a type of {' and '.join(sorted(files))}" for name, files in sorted(owners.items()) if len(files) > 1
+    ]
 
 
 def too_wide(root):
@@ -32,7 +34,9 @@ def too_wide(root):
         for part, ending in (("specs", ".antt"), ("src", ".rt")):
             for file in files_of(f"{root}/crates/{crate}/{part}", ending):
                 for number, line in enumerate(read(file).split("\n"), 1):
-                    is_wide = len(line) > WIDE_CLAUSE and CLAUSE.match(line) if part == "src" else len(line) > DEFINITION
+                    is_wide = len(
+                        line
+                    ) > WIDE_CLAUSE and CLAUSE.match(line) if part == "src" else len(line) > DEFINITION
                     if is_wide and not re.match(r"\s*(?:pub )?use ", line):
                         faults.append(f"{os.path.relpath(file, root)}:{number} has {len(line)} columns")
     return faults

@@ -1,5 +1,5 @@
-"""What a crate offers, read from its sources: its public names, each call, variant and field with its signature, and the
-clauses of its contracts."""
+"""What a crate offers, read from its sources: its public names, each call, variant and field with its signature, and
+the clauses of its contracts."""
 import os
 import re
 import sys
@@ -17,8 +17,8 @@ def read(path):
 
 
 def without_comments(text):
-    """Returns a text without its comments, and one that has no octets of literals either, so that each bracket stands for
-    itself. Blanks stand in their places."""
+    """Returns a text without its comments, and one that has no octets of literals either, so that each bracket stands
+    for itself. Blanks stand in their places."""
     literal = r"//[^\n]*|b?\"(?:\\.|[^\"\\])*\"|b?'(?:\\[^']+|[^'\\])'"
 
     def blank(found):
@@ -29,7 +29,7 @@ def without_comments(text):
 
 
 def closing(text, at):
-    """Returns the place behind the bracket that closes the one at a place."""
+    """Returns the place after the bracket that closes the one at a place."""
     depth = 0
     for found in BRACKET.finditer(text, at):
         depth += 1 if found[0] in "([{" else -1
@@ -48,7 +48,7 @@ def until(text, at, ends):
 
 
 def behind_generics(text):
-    """Returns what stands behind the parameters in angle brackets with which a text may begin."""
+    """Returns what stands after the parameters in angle brackets with which a text may begin."""
     depth = 0
     for place, octet in enumerate(text):
         depth += 1 if octet == "<" else -1 if octet == ">" and text[place - 1] not in "-=" else 0
@@ -83,8 +83,9 @@ def name_of(head):
 
 
 class Item:
-    """An item: what it is, its head, what it derives, its clauses, and what stands between its braces. `clauses` has the texts
-    of what it ensures by their labels; `contract` has all, in order: `requires` or `ensures`, label and text."""
+    """An item: what it is, its head, what it derives, its clauses, and what stands between its braces. `clauses` has
+    the texts of what it ensures by their labels; `contract` has all, in order: `requires` or `ensures`, label and
+    text."""
 
     def __init__(self, kind, is_public, is_final):
         self.kind, self.is_public, self.is_final = kind, is_public, is_final
@@ -105,7 +106,7 @@ class Text:
         self.plain, self.code = plain, code
 
     def items(self):
-        """Yields the items, but for those behind `#[cfg(test)]`."""
+        """Yields the items, but for those after `#[cfg(test)]`."""
         at, attributes = 0, ""
         while at < len(self.code):
             if self.code[at].isspace():
@@ -122,7 +123,7 @@ class Text:
                 attributes = ""
 
     def item(self, at):
-        """Returns the item at a place, or None, and the place behind it."""
+        """Returns the item at a place, or None, and the place after it."""
         found = ITEM.match(self.code, at)
         if not found:
             end = until(self.code, at, ";")
@@ -146,7 +147,7 @@ class Text:
         return item, end + 1
 
     def read_clauses(self, item, at):
-        """Reads the clauses that begin at a place, and returns the place behind them."""
+        """Reads the clauses that begin at a place, and returns the place after them."""
         clause = CLAUSE.match(self.code, at)
         while clause:
             at = closing(self.code, clause.end() - 1)
@@ -192,8 +193,8 @@ class Crate:
         return sorted(self.reached()[1], key=order)
 
     def reached(self):
-        """Returns what is offered and each type that stands in a line of it, by file and name, each with the path to it; and
-        the lines."""
+        """Returns what is offered and each type that stands in a line of it, by file and name, each with the path to
+        it; and the lines."""
         types = {}
         for file, items in self.files.items():
             types |= {name_of(it.head): file for it in items if it.kind in TYPES and it.is_public}
@@ -224,7 +225,9 @@ class Crate:
                     found.append(f"impl {trait} for {target}")
                     found += [f"{name}::{it.head}, of {trait}" for it in item.items() if it.kind == "type"]
                 else:
-                    found += [f"{name}::{it.head}" for it in item.items() if it.is_public and it.kind in ("fn", "const")]
+                    found += [
+                        f"{name}::{it.head}" for it in item.items() if it.is_public and it.kind in ("fn", "const")
+                    ]
         return found
 
     def clause(self, function, label):
@@ -264,7 +267,9 @@ def own_lines(item, name):
     if item.kind == "trait":
         for it in item.items():
             how = " (final)" if it.is_final else " (provided)" if it.inner else ""
-            found += [f"{name}::{it.head}{how}"] if it.kind == "fn" else [f"{name}::{it.head}"] if it.kind == "type" else []
+            found += [
+                f"{name}::{it.head}{how}"
+            ] if it.kind == "fn" else [f"{name}::{it.head}"] if it.kind == "type" else []
     elif item.inner:
         for begin, end in parts_of(item.inner.code):
             part = in_one_line(re.sub(r"#\[[^\]]*\]", "", item.inner.plain[begin:end]))

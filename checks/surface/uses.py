@@ -1,5 +1,5 @@
-"""Which libraries a crate uses: those that its code, its definitions and its proofs name. crates.txt lists these, and no
-others: `rt` finds by itself what they stand on."""
+"""Which libraries a crate uses: those that its code, its definitions and its proofs name. crates.txt lists these, and
+no others: `rt` finds by itself what they stand on."""
 import os
 import re
 
@@ -15,7 +15,7 @@ def listed(root):
 
 
 def used(folder):
-    """Returns the names behind which a crate looks for something."""
+    """Returns the names after which a crate looks for something."""
     names = set()
     for part in ("src", "specs", "proofs"):
         for at, _, files in os.walk(f"{folder}/{part}"):

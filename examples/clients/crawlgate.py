@@ -1,12 +1,15 @@
 #!/usr/bin/env python3
-"""A client of `crawlgate serve`: permits and pages over one connection.
+"""Clients of `crawlgate serve`: Gate has permits and pages by lines over one connection; Front (crawlgate_front.py) has
+pages by HTTP, of a server with --http, each with its status, fields and body.
 
     with Gate("127.0.0.1", 8300) as gate:
         with gate.permit("foobot", url) as permit:
             page = permit.open(timeout=30).read()
         print(gate.fetch("foobot", url).body)
+    with Front("8380", "foobot") as front:
+        print(front.fetch(url).fields)
 
-A permit is good for the one URL that `permit.url` has, as the gate writes it: who fetches by something else than
+A permit is good for the one URL that `permit.url` has, as the gate writes it: a crawler that fetches by something else than
 `permit.open` fetches that text and no other, follows no redirect without a permit of its own, and sends the product token
 as User-Agent.
 
@@ -18,30 +21,19 @@ As a program, `crawlgate.py PORT TOKEN URL` has the gate fetch a page, and write
 In place of a port it takes the path of a socket, which has a `/` in it (`crawlgate serve --socket PATH`).
 """
 import contextlib
-import itertools
+import io
 import socket
 import sys
 import time
 import urllib.request
 from dataclasses import dataclass
-from typing import List
+from http.client import HTTPResponse
+from typing import Any, BinaryIO, Callable, Dict, Iterator, List, Optional, Set, Tuple, Type, TypeVar, Union
 
+from crawlgate_base import AWAY, Denied, Patience, Refused, connected, connected_to
+from crawlgate_front import Failed, Front, Page
 
-class Denied(Exception):
-    """The page may not be fetched now: `cause` is 'line <n>', 'closed', 'unknown', 'expired' or 'spent'."""
-
-    def __init__(self, authority, cause):
-        super().__init__(f"{authority}: {cause}")
-        self.authority, self.cause = authority, cause
-
-
-class Refused(Exception):
-    """The gate took no such line, or could not do it now: `word` is as 'url bad', 'permits', 'busy' or 'notout'. Or it says
-    that urllib would fetch another page than the permit's."""
-
-    def __init__(self, word):
-        super().__init__(word)
-        self.word = word
+__all__ = ["AWAY", "Denied", "Failed", "Fetched", "Front", "Gate", "Page", "Permit", "Refused"]
 
 
 @dataclass
@@ -52,14 +44,17 @@ class Fetched:
     body: bytes
 
     @property
-    def is_page(self):
+    def is_page(self) -> bool:
         return self.hops[-1].startswith("PAGE ")
 
 
 class _AsItCame(urllib.request.HTTPErrorProcessor):
     """Gives each response as it came: a redirect is not followed, and no status is an error."""
 
-    http_response = https_response = lambda self, request, response: response
+    def http_response(self, request: Any, response: Any) -> Any:
+        return response
+
+    https_response = http_response
 
 
 _OPENER = urllib.request.build_opener(_AsItCame)
@@ -74,41 +69,22 @@ class Permit:
     url: str
     reason: str
 
-    def open(self, timeout):
+    def open(self, timeout: float) -> HTTPResponse:
         """Fetches the page, and returns the response of whatever status, as urllib.request has it. What a redirect names
         wants a permit of its own. Where urllib would ask for another page it is Refused, and nothing is fetched."""
         request = urllib.request.Request(self.url, headers={"User-Agent": self.token})
         # (urllib makes the host and the target from the URL anew)
         if f"{request.type}://{request.host}{request.selector}" != self.url:
             raise Refused(f"urllib can't fetch exactly {self.url}")
-        return _OPENER.open(request, timeout=timeout)
-
-
-def _connected_to(host, port, timeout):
-    """Returns a connection to a port."""
-    peer = socket.create_connection((host, port), timeout)
-    peer.setsockopt(socket.IPPROTO_TCP, socket.TCP_NODELAY, 1)
-    return peer
-
-
-def _connected(path, timeout):
-    """Returns a connection to a socket that is a file."""
-    peer = socket.socket(socket.AF_UNIX)
-    peer.settimeout(timeout)
-    try:
-        peer.connect(path)
-    except OSError:
-        peer.close()
-        raise
-    return peer
+        response: HTTPResponse = _OPENER.open(request, timeout=timeout)
+        return response
 
 
 # how long a reply may take, in seconds: a page with its robots.txt and five redirects takes an hour at most
-TIMEOUT = 3_900
+TIMEOUT = 3_900.0
 # how long a site stays closed before its robots.txt is fetched again for a permit, in seconds
-RETRY_CLOSED = 600
-# how long a server that is away is waited for, and the pause between two tries to connect, in seconds; and how it is seen
-AWAY, PAUSE, GONE = 60, 0.2, (ConnectionError, FileNotFoundError)
+RETRY_CLOSED = 600.0
+Session = TypeVar("Session", bound="Gate")
 
 
 class Gate:
@@ -122,55 +98,73 @@ class Gate:
     A site that is closed, as one whose robots.txt could not be fetched, is tried again for a permit once `retry_closed`
     seconds have passed since this Gate fetched its robots.txt; with None never."""
 
-    def __init__(self, host, port, timeout=TIMEOUT, retry_closed=RETRY_CLOSED, away=AWAY):
-        self._begin(lambda: _connected_to(host, port, timeout), retry_closed, away)
+    def __init__(
+        self,
+        host: str,
+        port: int,
+        timeout: float = TIMEOUT,
+        retry_closed: Optional[float] = RETRY_CLOSED,
+        away: float = AWAY,
+    ) -> None:
+        self._begin(lambda: connected_to(host, port, timeout), retry_closed, away)
 
     @classmethod
-    def at(cls, place, timeout=TIMEOUT, retry_closed=RETRY_CLOSED, away=AWAY):
+    def at(
+        cls: Type[Session],
+        place: str,
+        timeout: float = TIMEOUT,
+        retry_closed: Optional[float] = RETRY_CLOSED,
+        away: float = AWAY,
+    ) -> Session:
         """A session at a port of this machine, or at the socket of a path, which has a `/` in it."""
-        if "/" not in place:
-            return cls("127.0.0.1", int(place), timeout, retry_closed, away)
         gate = cls.__new__(cls)
-        gate._begin(lambda: _connected(place, timeout), retry_closed, away)
+        gate._begin(lambda: connected(place, timeout), retry_closed, away)
         return gate
 
-    def _begin(self, connect, retry_closed, away):
-        self._connect, self._retry_closed, self._away = connect, retry_closed, away
+    def _begin(self, connect: Callable[[], socket.socket], retry_closed: Optional[float], away: float) -> None:
+        self._connect, self._retry_closed, self._patience = connect, retry_closed, Patience(away)
         # the numbers of permits that are out, those that went back with a connection, and when robots.txt files were fetched
-        self._out, self._lost, self._refreshed = set(), set(), {}
-        # how many connections there were, since when no reply has come, and whether this Gate is at its end
-        self.connections, self._away_since, self._is_closed, self._peer, self._replies = 0, None, False, None, None
+        self._out: Set[int] = set()
+        self._lost: Set[int] = set()
+        self._refreshed: Dict[str, float] = {}
+        # how many connections there were, and whether this Gate is at its end
+        self.connections, self._is_closed = 0, False
+        self._peer: Optional[socket.socket] = None
+        self._replies: BinaryIO = io.BytesIO()
         self._come_back()
 
-    def __enter__(self):
+    def __enter__(self: Session) -> Session:
         return self
 
-    def __exit__(self, kind, error, trace):
+    def __exit__(self, kind: Any, error: Any, trace: Any) -> None:
         """Ends the session, by which all its permits are given back."""
         # (where the connection ends the session has ended, too)
         with contextlib.closing(self), contextlib.suppress(OSError):
             if kind is None:
                 self.quit()
 
-    def close(self):
+    def close(self) -> None:
         """Closes the connection. The server gives the session's permits back once it sees that."""
         self._is_closed = True
+        self._patience.end()
         # (another thread may wait for a reply)
-        with contextlib.suppress(OSError, AttributeError):
-            self._peer.shutdown(socket.SHUT_RDWR)
+        with contextlib.suppress(OSError):
+            if self._peer:
+                self._peer.shutdown(socket.SHUT_RDWR)
         self._drop()
 
-    def _drop(self):
-        for it in filter(None, (self._replies, self._peer)):
-            it.close()
-        self._peer = self._replies = None
+    def _drop(self) -> None:
+        self._replies.close()
+        if self._peer:
+            self._peer.close()
+        self._peer, self._replies = None, io.BytesIO()
 
-    def written(self, url):
+    def written(self, url: str) -> str:
         """Returns a URL as the gate writes it: the one that it decides, and that is to be fetched. It is Refused as
         'url bad' and so on."""
         return self._say("URL", "URL", url)
 
-    def ask(self, token, url):
+    def ask(self, token: str, url: str) -> int:
         """Asks for a permit to fetch a page, and returns its number."""
         number = int(self._say("PERMIT", "ASK", token, url))
         self._out.add(number)
@@ -178,7 +172,7 @@ class Gate:
         self._lost.discard(number)
         return number
 
-    def start(self, number, token, url):
+    def start(self, number: int, token: str, url: str) -> str:
         """Starts the fetch of a permit, which is spent by it, and returns the reason: 'open', 'line <n>', 'norule' or
         'robots'. A permit whose start is denied is spent too."""
         try:
@@ -187,72 +181,72 @@ class Gate:
             self._out.discard(number)
             raise
 
-    def back(self, number):
+    def back(self, number: int) -> None:
         """Gives an unspent permit back."""
         self._say("BACK", "BACK", number)
         self._out.discard(number)
 
-    def done(self, number):
+    def done(self, number: int) -> None:
         """Says that the fetch that was started under this number has ended."""
         self._say("DONE", "DONE", number)
         self._out.discard(number)
 
-    def state(self, authority):
+    def state(self, authority: str) -> Tuple[str, bool]:
         """Returns what stands for an authority ('unknown', 'expired', 'closed', 'open' or 'rules'), and whether its robots
         file is being fetched."""
         _, word, turn = self._say("STATE", "STATE", authority).split(" ")
         return word, turn == "fetching"
 
-    def refresh(self, authority):
+    def refresh(self, authority: str) -> str:
         """Has the robots.txt of an authority fetched, and returns 'rules', 'open' or 'closed'. It is Refused as
         'inflight' while another session has it fetched."""
         word = self._say("TAKEN", "REFRESH", authority).partition(" ")[2]
         self._refreshed[authority] = time.monotonic()
         return word
 
-    def fetch(self, token, url):
+    def fetch(self, token: str, url: str) -> Fetched:
         """Has the gate fetch a page, the robots.txt before it where none is in force, and the pages to which it leads. Where
         the connection ends meanwhile, the page is fetched again."""
-        return self._patiently(self._fetched, token, url)
+        return self._patience.made(lambda: self._fetched(token, url))
 
-    def _fetched(self, token, url):
+    def _fetched(self, token: str, url: str) -> Fetched:
         hops = []
         reply = self._send("FETCH", token, url)
         while reply.startswith("HOP "):
             hops.append(reply.split(" ", 2)[2])
             reply = self._reply()
         length = int(self._rest_of("BODY", reply))
-        # (a line end stands behind the body)
+        # (a line end stands after the body)
         return Fetched(hops, self._octets(length + 1)[:-1])
 
-    def info(self):
+    def info(self) -> Dict[str, int]:
         """Returns how much there is in the gate, of all sessions together, by name: 'entries', 'ever', 'starts', 'permits',
         'running', 'turns', 'authorities', 'room', 'connections' and 'clients'."""
         words = self._say("INFO", "INFO").split(" ")
         return dict(zip(words[::2], map(int, words[1::2])))
 
-    def why(self, authority):
+    def why(self, authority: str) -> Optional[List[Union[int, str]]]:
         """Returns the answer that stands for a site: the number of its turn, the moment of that turn's begin in seconds, and
         the words of the answer as the text of a history has them. None where no answer stands."""
         _, *words = self._say("WHY", "WHY", authority).split(" ")
         return None if words == ["unknown"] else [int(words[0]), int(words[1]), *words[2:]]
 
-    def seal(self):
+    def seal(self) -> bytes:
         """Returns the text of the history since the last seal, b"" where nothing was entered. Nobody else keeps it."""
         count = int(self._say("SEALED", "SEAL"))
         return b"".join(self._line() for _ in range(count))
 
-    def quit(self):
+    def quit(self) -> None:
         """Ends the session. When it returns, the session's permits have gone back."""
         if self._peer:
             self._say("BYE", "QUIT")
         self.close()
 
     @contextlib.contextmanager
-    def permit(self, token, url):
+    def permit(self, token: str, url: str) -> Iterator[Permit]:
         """Starts the fetch of a page, which the caller makes itself, and ends it on the way out. It gives a Permit. The
         robots.txt is fetched first, where none is in force."""
-        permit, number = self._patiently(self._started, token, url)
+        permit, number = self._patience.made(lambda: self._started(token, url))
         connection = self.connections
         try:
             yield permit
@@ -262,7 +256,7 @@ class Gate:
                 with contextlib.suppress(OSError):
                     self.done(number)
 
-    def _started(self, token, url):
+    def _started(self, token: str, url: str) -> Tuple[Permit, int]:
         url = self.written(url)
         number = self._ask_informed(token, url)
         try:
@@ -271,7 +265,7 @@ class Gate:
             self.back(number)
             raise
 
-    def _ask_informed(self, token, url):
+    def _ask_informed(self, token: str, url: str) -> int:
         try:
             return self.ask(token, url)
         except Denied as denied:
@@ -280,7 +274,7 @@ class Gate:
             self.inform(denied.authority)
             return self.ask(token, url)
 
-    def _is_to_be_informed(self, denied):
+    def _is_to_be_informed(self, denied: Denied) -> bool:
         """Whether no answer is in force, or the site is closed, and its robots.txt was not fetched by this Gate of late."""
         if denied.cause != "closed" or self._retry_closed is None:
             return denied.cause in ("unknown", "expired")
@@ -288,7 +282,7 @@ class Gate:
         now = time.monotonic()
         return now - self._refreshed.setdefault(denied.authority, now) >= self._retry_closed
 
-    def inform(self, authority):
+    def inform(self, authority: str) -> None:
         """Has a robots.txt fetched, or waits until another session has done so."""
         try:
             self.refresh(authority)
@@ -298,10 +292,10 @@ class Gate:
             while self.state(authority)[1]:
                 time.sleep(0.1)
 
-    def _say(self, wanted, *words):
+    def _say(self, wanted: str, *words: Union[str, int]) -> str:
         return self._rest_of(wanted, self._send(*words))
 
-    def _send(self, *words):
+    def _send(self, *words: Union[str, int]) -> str:
         """Sends a line of these words, and returns the first line of the reply."""
         for word in words:
             # another octet would end the word, or the line
@@ -312,23 +306,12 @@ class Gate:
         if is_of_permit and words[1] in self._lost:
             raise ConnectionError(f"permit {words[1]} went back with the connection that it was granted on")
         if not is_of_permit and words[0] not in ("SEAL", "QUIT"):
-            return self._patiently(self._exchange, line)
-        # (of these it can't be told what the server did, where the reply is lost)
-        self._patiently(self._come_back)
+            return self._patience.made(lambda: self._exchange(line))
+        # (of these it can't be known what the server did, where the reply is lost)
+        self._patience.made(self._come_back)
         return self._exchange(line)
 
-    def _patiently(self, call, *words):
-        """Makes a call, and makes it again where the connection ended, as long as a server that is away is waited for."""
-        for pause in itertools.chain([0], itertools.repeat(PAUSE)):
-            try:
-                return call(*words)
-            except GONE:
-                since = self._away_since
-                if since is None or self._is_closed or time.monotonic() - since >= self._away:
-                    raise
-            time.sleep(pause)
-
-    def _come_back(self):
+    def _come_back(self) -> socket.socket:
         """Connects, where the connection was lost."""
         if self._is_closed:
             raise ConnectionError("this Gate is closed")
@@ -336,56 +319,58 @@ class Gate:
             self._peer = self._connect()
             self._replies = self._peer.makefile("rb")
             self.connections += 1
+        return self._peer
 
-    def _exchange(self, line):
-        self._come_back()
+    def _exchange(self, line: bytes) -> str:
+        peer = self._come_back()
         with self._at_stake():
-            self._peer.sendall(line)
+            peer.sendall(line)
         reply = self._reply()
-        self._away_since = None
+        self._patience.back()
         return reply
 
     @contextlib.contextmanager
-    def _at_stake(self):
+    def _at_stake(self) -> Iterator[None]:
         """Whatever fails meanwhile, the connection is lost, and the permits go back: it may be in the middle of a reply."""
         try:
             yield
         except BaseException:
             self._drop()
             self._lost, self._out = self._lost | self._out, set()
-            self._away_since = self._away_since or time.monotonic()
+            self._patience.lost()
             raise
 
-    def _reply(self):
+    def _reply(self) -> str:
         return self._line()[:-1].decode()
 
-    def _line(self):
+    def _line(self) -> bytes:
         with self._at_stake():
             line = self._replies.readline()
             if not line.endswith(b"\n"):
                 raise ConnectionError("the connection ended in a reply")
             return line
 
-    def _octets(self, count):
+    def _octets(self, count: int) -> bytes:
         with self._at_stake():
             octets = self._replies.read(count)
             if len(octets) < count:
                 raise ConnectionError("the connection ended in a body")
             return octets
 
-    def _rest_of(self, wanted, reply):
-        """Returns what stands behind the first word of a reply, which must be this one."""
+    def _rest_of(self, wanted: str, reply: str) -> str:
+        """Returns what stands after the first word of a reply, which must be this one."""
         word, _, rest = reply.partition(" ")
         if word == wanted:
             return rest
         if word == "NO":
-            raise Denied(*rest.split(" ", 1))
+            authority, _, cause = rest.partition(" ")
+            raise Denied(authority, cause)
         if word == "ERR":
             raise Refused(rest)
         raise ConnectionError(f"no reply of a gate: {reply!r}")
 
 
-def main(given):
+def main(given: List[str]) -> int:
     if len(given) != 3:
         sys.exit("usage: crawlgate.py PORT TOKEN URL, or crawlgate.py PATH TOKEN URL")
     place, token, url = given

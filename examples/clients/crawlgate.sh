@@ -1,14 +1,22 @@
 #!/bin/bash
-# A client of `crawlgate serve`, for scripts. It needs bash (for /dev/tcp), head and sleep; for a socket, which is named by a
-# path with a / in place of the port, nc too (of OpenBSD).
+# A client of `crawlgate serve`, for scripts. It needs bash (for /dev/tcp), head and sleep; `fetch` needs curl. In place
+# of a port it takes the path of a socket, which has a / in it; there `run` and `seal` need nc too (of OpenBSD).
 #
-# usage: crawlgate.sh PORT fetch TOKEN URL
+# usage: crawlgate.sh HTTP_PORT fetch TOKEN URL
 #        crawlgate.sh PORT run TOKEN URL COMMAND ..
 #        crawlgate.sh PORT seal
 #
-# `fetch` has the gate fetch a page, and writes its body; its hops go to standard error. `run` asks for a permit, has the
-# robots.txt fetched where none is in force, starts the fetch, runs the command, which fetches the page, and ends the
-# fetch:
+# `fetch` has the gate fetch a page, by curl, at the port of --http. It writes the body, and to standard error for each
+# hop what Proxy-Status says of it, as in docs/FORMATS.md:
+#
+#   crawlgate.sh 8380 fetch foobot https://a.example/x
+#   received-status=200; details="65536 norule"
+#
+# curl follows at most five redirects, each back to the gate and under a permit of its own. A page that is longer than
+# the gate reads is not written.
+#
+# `run` and `seal` are for the port of --port. `run` asks for a permit, has the robots.txt fetched if none is in force,
+# starts the fetch, runs the command, which fetches the page, and ends the fetch:
 #
 #   crawlgate.sh 8300 run foobot http://a.example/ curl --globoff --silent --user-agent foobot '{}'
 #
@@ -24,9 +32,10 @@
 #
 #   crawlgate.sh 8300 seal > "segments/$(date -u +%Y%m%dT%H%M%SZ)"
 #
-# The status is 0 for a page or a segment, or that of the command; 1 where the page is denied, refused or can't be had, which standard
-# error tells; 2 for words that are not understood. What the session was granted goes back when it ends, however that is; the
-# server ends one that sends no line for 300 seconds, or what its --patience says, so a command may not take longer.
+# The status is 0 for a page or a segment, or that of the command; 1 if the page is denied, refused or can't be had, and
+# standard error says why; 2 for arguments that are not understood. What a session of `run` was granted goes back when
+# it ends, however that is; the server ends one that sends no line for 300 seconds, or what its --patience says, so a
+# command may not take longer.
 set -u
 LC_ALL=C
 
@@ -67,24 +76,33 @@ inform() {
     done
 }
 
-# The gate fetches the page.
+# Writes a URL as the target of a request: four characters that none may have stand escaped, as in the URL Standard.
+target() {
+    local path=${url%%\?*} query
+    query=${url#"$path"}
+    path=${path//</%3C} path=${path//>/%3E} path=${path//\`/%60}
+    query=${query//</%3C} query=${query//>/%3E} query=${query//\"/%22}
+    echo "$path$query"
+}
+
+# The gate fetches the page, and what a redirect leads to.
 fetch() {
-    local hop=
-    say FETCH "$token" "$url"
-    while [ "${reply%% *}" = HOP ]; do
-        hop=${reply#HOP * }
-        echo "$hop" >&2
-        receive
-    done
-    [ "${reply%% *}" = BODY ] || fail "$reply"
-    head -c "${reply#BODY }" <&3
-    # a line end stands behind the body
-    receive
-    [ "${hop%% *}" = PAGE ]
+    local where=http://127.0.0.1:$place heads told by=()
+    command -v curl > /dev/null || fail "there is no curl"
+    case $place in */*) where=http://localhost by=(--unix-socket "$place") ;; esac
+    heads=$(mktemp) || fail "no file can be made"
+    # shellcheck disable=SC2064
+    trap "rm -f '$heads'" EXIT
+    curl --disable --globoff --path-as-is --noproxy '*' --silent --show-error --location --max-redirs 5 "${by[@]}" \
+        --header "Crawlgate-Token: $token" --dump-header "$heads" "$where/$(target)" || fail "no page"
+    told=$(sed -n 's/\r$//; s/^proxy-status: crawlgate; //p' "$heads")
+    [ "$told" ] || fail "no answer of a gate"
+    echo "$told" >&2
+    [[ ${told##*$'\n'} = received-status=* ]]
 }
 
 # Returns whether curl with these options takes [..] and {..} of a URL for patterns. It says yes where it can't tell: an option
-# behind most long ones may be that one's value.
+# after most long ones may be that one's value.
 reads_patterns() {
     local word flags='[0-9aBfgGiIjJklLMnNOpqRsSvZ#]' valued='[AbcCdDeEFhHKmoPQrtTuUwxXyYz]' is_value='' is_off=''
     for word; do
@@ -156,7 +174,7 @@ seal() {
 }
 
 [ $# -ge 4 ] || [ "$# ${2-}" = "2 seal" ] ||
-    fail "usage: crawlgate.sh PORT fetch TOKEN URL, or PORT run TOKEN URL COMMAND .., or PORT seal" 2
+    fail "usage: crawlgate.sh HTTP_PORT fetch TOKEN URL, or PORT run TOKEN URL COMMAND .., or PORT seal" 2
 place=$1 action=$2 token=${3-none} url=${4-none}
 shift $(($# < 4 ? $# : 4))
 case $place in */*) ;; *[!0-9]* | '') fail "no port, and no path: $place" 2 ;; esac
@@ -169,7 +187,8 @@ run) [ $# -gt 0 ] || fail "run takes a token, a URL and a command" 2 ;;
 seal) [ "$token $url" = "none none" ] || fail "seal takes nothing" 2 ;;
 *) fail "neither fetch, run nor seal: $action" 2 ;;
 esac
-case $place in
+case $action$place in
+fetch*) ;;
 */*)
     command -v nc > /dev/null || fail "there is no nc for a socket"
     coproc nc -N -U "$place"

@@ -4,7 +4,7 @@
 usage: prometheus.py PORT|SOCKET FILE.prom
 
 FILE.prom is written beside its place and renamed into it, as the collector wants it. Run it each minute, by cron or a timer.
-Where the server does not answer the file has `crawlgate_up 0` alone; standard error says why, and the status is 1. At the
+Where the server does not answer the file has only `crawlgate_up 0`; standard error says why, and the status is 1. At the
 port of --seal-port, or the socket of --seal-socket, it waits for no client.
 """
 import os
@@ -20,6 +20,15 @@ COUNTERS = {
     "ever": ("entries_total", "Entries of the history, the sealed ones among them."),
     "starts": ("starts_total", "Fetches of pages that were started."),
     "connections": ("connections_total", "Connections of clients that were taken."),
+    "denied_line": ("denied_by_lines_total", "Asks and starts that a line of a robots.txt denied."),
+    "denied_closed": ("denied_closed_total", "Asks and starts at closed sites."),
+    "denied_unknown": ("denied_unknown_total", "Asks and starts at sites without an answer."),
+    "denied_expired": ("denied_expired_total", "Asks and starts at sites whose answer was too old."),
+    "denied_spent": ("denied_spent_total", "Starts without an unspent permit."),
+    "failed_pages": ("failed_pages_total", "Fetches of pages that gave no response."),
+    "failed_robots": ("failed_robots_total", "Fetches of robots.txt files that gave no response or a server's error."),
+    "journal_octets": ("journal_octets_total", "Octets written to the journal."),
+    "journal_syncs": ("journal_syncs_total", "Syncs of the journal."),
 }
 GAUGES = {
     "entries": ("entries", "Entries of the history since the last seal."),
@@ -29,6 +38,7 @@ GAUGES = {
     "authorities": ("authorities", "Authorities that have an answer or a turn."),
     "room": ("room", "Entries that the history has room for."),
     "clients": ("clients", "Clients that are being served."),
+    "slowest_sync": ("journal_slowest_sync_microseconds", "The longest sync of the journal, in microseconds."),
 }
 
 

@@ -13,7 +13,7 @@ use Rattle.gate_core.specs.declared.state.State.{State}
 use Rattle.crawl_job.specs.declared.job.Outcome.{Outcome}
 use Rattle.keepers.specs.Deals.{Deals}
 use Rattle.keepers.specs.declared.counts.Counts.{Counts}
-use Rattle.command_server.specs.declared.visits.Visitors.{Visitors}
+use Rattle.command_server.specs.declared.server_counters.ServerCounts.{ServerCounts}
 use Rattle.command_lines.specs.CallOf.{command_of}
 use Rattle.command_server.specs.FirstLines.{is_turned_away}
 use Rattle.command_lines.specs.Limits.{max_client_line, max_lines}
@@ -86,8 +86,8 @@ module _ {S : Type 0} (deals : Deals S) where
       (result : Option (Result Outcome NoMemory)) × (deals.fetches reads old job result new × (told ≡ fetched result))
   DoesCommand reads old (Ok (commands.Url url)) told new = (told ≡ replies.Written url) × (new ≡ old)
   DoesCommand reads old (Ok commands.Info) told new =
-      (counts : Counts) × ((visitors : Visitors)
-      × (deals.counts old counts × (told ≡ replies.Counted counts visitors) × (new ≡ old)))
+      (counts : Counts) × ((server : ServerCounts)
+      × (deals.counts old counts × (told ≡ replies.Counted counts server) × (new ≡ old)))
   DoesCommand reads old (Ok (commands.Why authority)) told new =
       (result : Result (Option StandingAnswer) NoMemory)
       × (deals.answers old authority result × (told ≡ replies.Explained authority result) × (new ≡ old))

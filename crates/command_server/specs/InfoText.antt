@@ -2,7 +2,9 @@
 -- Cited by `info_text` and `told`.
 use Rattle.std.specs.Prelude.{List, ℕ, ◌++◌, codes, decimal}
 use Rattle.keepers.specs.declared.counts.Counts.{Counts}
-use Rattle.command_server.specs.declared.visits.Visitors.{Visitors}
+use Rattle.command_server.specs.declared.server_counters.DenialCounts.{DenialCounts}
+use Rattle.command_server.specs.declared.server_counters.ServerCounts.{ServerCounts}
+use Rattle.journal.specs.declared.meter.JournalCounts.{JournalCounts}
 
 -- the entries, the starts, and the permits out
 unfoldable pub begin_of_info : Counts → List ℕ
@@ -20,15 +22,49 @@ end_of_info counts =
     ++ (codes " authorities " ++ (decimal counts.authorities ++ codes " room ")))))
 
 -- the history's room, and the server's connections
-unfoldable pub visitors_of_info : Counts → Visitors → List ℕ
-visitors_of_info counts visitors =
-    decimal counts.room ++ (codes " connections " ++ (decimal visitors.connections
-    ++ (codes " clients " ++ (decimal visitors.clients ++ codes "\n"))))
+unfoldable pub server_of_info : Counts → ServerCounts → List ℕ
+server_of_info counts server =
+    decimal counts.room ++ (codes " connections " ++ (decimal server.connections
+    ++ (codes " clients " ++ decimal server.clients)))
+
+-- the denials by cause, but for those of spent permits
+unfoldable pub denials_of_info : DenialCounts → List ℕ
+denials_of_info denials =
+    codes " denied_line " ++ (decimal denials.line
+    ++ (codes " denied_closed " ++ (decimal denials.closed
+    ++ (codes " denied_unknown " ++ (decimal denials.unknown
+    ++ (codes " denied_expired " ++ (decimal denials.expired ++ codes " denied_spent ")))))))
+
+-- the denials of spent permits, and the fetches without a response
+unfoldable pub faults_of_info : ServerCounts → List ℕ
+faults_of_info server =
+    decimal server.denials.spent
+    ++ (codes " failed_pages " ++ (decimal server.failed_pages
+    ++ (codes " failed_robots " ++ (decimal server.failed_robots ++ codes " journal_octets "))))
+
+-- what the journal has written
+unfoldable pub journal_of_info : JournalCounts → List ℕ
+journal_of_info journal =
+    decimal journal.octets
+    ++ (codes " journal_syncs " ++ (decimal journal.syncs
+    ++ (codes " slowest_sync " ++ (decimal journal.slowest_sync ++ codes "\n"))))
+
+-- what follows the denials
+abbrev pub work_of_info : ServerCounts → List ℕ
+work_of_info server = faults_of_info server ++ journal_of_info server.journal
+
+-- what follows the connections
+abbrev pub events_of_info : ServerCounts → List ℕ
+events_of_info server = denials_of_info server.denials ++ work_of_info server
+
+-- what follows the authorities
+abbrev pub after_authorities : Counts → ServerCounts → List ℕ
+after_authorities counts server = server_of_info counts server ++ events_of_info server
 
 -- what follows the permits
-abbrev pub rest_of_info : Counts → Visitors → List ℕ
-rest_of_info counts visitors = end_of_info counts ++ visitors_of_info counts visitors
+abbrev pub rest_of_info : Counts → ServerCounts → List ℕ
+rest_of_info counts server = end_of_info counts ++ after_authorities counts server
 
 -- the reply
-abbrev pub info_text : Counts → Visitors → List ℕ
-info_text counts visitors = begin_of_info counts ++ rest_of_info counts visitors
+abbrev pub info_text : Counts → ServerCounts → List ℕ
+info_text counts server = begin_of_info counts ++ rest_of_info counts server

@@ -9,7 +9,7 @@ use crate::client_reply::ClientReply;
 use crate::first_line::FirstLine;
 use crate::kept_pages::KeptPages;
 use crate::numbered_clock::{FetchClock, NumberedClock, next_reading};
-use crate::visits::Visits;
+use crate::server_counters::ServerCounters;
 use command_lines::{Answerer, Command, Flow, Known, LineFault, Speaker, read_command};
 use counted_io::{DeviceFault, Output, Sink};
 use crawl_job::Outcome;
@@ -32,7 +32,7 @@ pub(crate) struct ClientLines<'c, C: NumberedClock> {
     pub(crate) speaker: Speaker,
     pub(crate) clock: &'c C,
     pub(crate) first: FirstLine,
-    pub(crate) visits: &'c Visits,
+    pub(crate) counters: &'c ServerCounters<'c>,
     pub(crate) last: LastToken,
 }
 
@@ -56,6 +56,7 @@ impl<'k, K: Keeper, C: NumberedClock> Answerer<Client<'k, K>> for ClientLines<'_
         let told = self.told_of(alloc, client.number, client.keeper, line);
         let flow = flow_behind(self.first, client.number, line, &told);
         client.number = next_reading(next_reading(client.number));
+        told.count_in(self.counters);
         told.tell(output, sink)?;
         Ok(flow)
     }
@@ -99,7 +100,7 @@ impl<C: NumberedClock> ClientLines<'_, C> {
             Ok(Command::Url(url)) => ClientReply::Written(url),
             Ok(Command::Info) => ClientReply::Counted {
                 counts: keeper.counts(),
-                visitors: self.visits.read(),
+                server: self.counters.read(),
             },
             Ok(Command::Why { authority }) => {
                 let result = keeper.answer(alloc, &authority);

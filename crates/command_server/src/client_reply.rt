@@ -8,7 +8,7 @@ ghost use Rattle.command_server.specs.Clients.{is_farewell};
 ghost use Rattle.command_server.specs.ClientReplyText.{body_text, fetched_text, refresh_text, spent_text, client_reply_text};
 
 use crate::info_text::push_info;
-use crate::visits::Visitors;
+use crate::server_counters::{ServerCounters, ServerCounts};
 use authority_cache::StandingAnswer;
 use command_lines::{
     Flow, LineFault, arrive_pieces, ask_pieces, back_pieces, begin_pieces, bye_pieces,
@@ -58,7 +58,7 @@ pub(crate) enum ClientReply {
     /// How much the gate keeps, and the server's connections.
     Counted {
         counts: Counts,
-        visitors: Visitors,
+        server: ServerCounts,
     },
     /// The authority's standing answer, in force or not.
     Explained {
@@ -79,6 +79,23 @@ impl ClientReply {
         match self {
             ClientReply::Bye => Flow::Ends,
             _ => Flow::Goes,
+        }
+    }
+
+    /// Counts the denials and failed fetches that it tells.
+    pub(crate) fn count_in(&self, counters: &ServerCounters<'_>) {
+        match self {
+            ClientReply::Asked(Err(AskRefusal::Denied(denial))) => counters.deny(denial.cause),
+            ClientReply::Started {
+                result: Err(denial),
+                ..
+            } => counters.deny(denial.cause),
+            ClientReply::Fetched(outcome) => {
+                for hop in outcome.hops.as_slice() {
+                    counters.note_hop(hop);
+                }
+            }
+            _ => {}
         }
     }
 
@@ -132,8 +149,8 @@ impl ClientReply {
         let line = match self {
             ClientReply::Fetched(outcome) => return push_fetched(outcome, output, sink),
             ClientReply::Sealed(result) => return push_sealed(result, output, sink),
-            ClientReply::Counted { counts, visitors } => {
-                return push_info(*counts, *visitors, output, sink);
+            ClientReply::Counted { counts, server } => {
+                return push_info(*counts, *server, output, sink);
             }
             ClientReply::Explained { authority, result } => {
                 return push_why(authority, result, output, sink);

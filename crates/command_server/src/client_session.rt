@@ -10,7 +10,7 @@ ghost use Rattle.command_lines.specs.Session.{Session, failures_after_reads, fai
 use crate::client_lines::{Client, ClientLines};
 use crate::first_line::FirstLine;
 use crate::numbered_clock::NumberedClock;
-use crate::visits::Visits;
+use crate::server_counters::ServerCounters;
 use command_lines::{MAX_LINES, SessionFault, Speaker, run_session};
 use counted_io::{Sink, Source};
 use keepers::Keeper;
@@ -38,7 +38,7 @@ pub fn serve<R: Source, W: Sink, K: Keeper, C: NumberedClock>(
     ensures writes { W.failures writer.new
         ≡ failures_after_writes (W.failures writer.old) result }
 {
-    let visits = Visits::new();
+    let counters = ServerCounters::new(None, None);
     serve_from(
         alloc,
         reader,
@@ -46,11 +46,11 @@ pub fn serve<R: Source, W: Sink, K: Keeper, C: NumberedClock>(
         keeper,
         clock,
         FirstLine::Any,
-        &visits,
+        &counters,
     )
 }
 
-/// Like `serve`, but ends the session after a first line that is turned away, and INFO tells of these visits.
+/// Like `serve`, but ends the session after a first line that is turned away, and counts in these counters, which INFO tells.
 pub fn serve_from<R: Source, W: Sink, K: Keeper, C: NumberedClock>(
     alloc: Global,
     reader: &mut R,
@@ -58,7 +58,7 @@ pub fn serve_from<R: Source, W: Sink, K: Keeper, C: NumberedClock>(
     keeper: &mut K,
     clock: &C,
     first: FirstLine,
-    visits: &Visits,
+    counters: &ServerCounters<'_>,
 ) -> Result<(), SessionFault>
     ensures session { Serves K.deals speakers.Client first (C.reads clock.now) keeper.old keeper.new
         (R.left reader.old) (R.left reader.new)
@@ -71,7 +71,7 @@ pub fn serve_from<R: Source, W: Sink, K: Keeper, C: NumberedClock>(
         speaker: Speaker::Client,
         clock,
         first,
-        visits,
+        counters,
         last: LastToken::none(),
     };
     serve_lines(alloc, reader, writer, keeper, &lines)
@@ -85,7 +85,7 @@ pub fn serve_overseer<R: Source, W: Sink, K: Keeper, C: NumberedClock>(
     keeper: &mut K,
     clock: &C,
     first: FirstLine,
-    visits: &Visits,
+    counters: &ServerCounters<'_>,
 ) -> Result<(), SessionFault>
     ensures session { Serves K.deals speakers.Overseer first
         (C.reads clock.now) keeper.old keeper.new
@@ -99,7 +99,7 @@ pub fn serve_overseer<R: Source, W: Sink, K: Keeper, C: NumberedClock>(
         speaker: Speaker::Overseer,
         clock,
         first,
-        visits,
+        counters,
         last: LastToken::none(),
     };
     serve_lines(alloc, reader, writer, keeper, &lines)

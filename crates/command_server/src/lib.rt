@@ -9,11 +9,11 @@ mod first_line;
 mod info_text;
 mod kept_pages;
 mod numbered_clock;
-mod visits;
+mod server_counters;
 
 pub use client_session::{MAX_CLIENT_LINE, serve, serve_from, serve_overseer};
 pub use command_lines::{SessionFault, replay};
 pub use first_line::FirstLine;
 pub use keepers::{BookKeeper, DeskKeeper, Keeper};
 pub use numbered_clock::{FetchClock, NumberedClock, next_reading};
-pub use visits::{Visitors, Visits};
+pub use server_counters::{DenialCounts, ServerCounters, ServerCounts};

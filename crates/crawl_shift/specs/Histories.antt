@@ -33,3 +33,9 @@ pub record WritesJobs (world : World) (workers : ℕ) (jobs : List Job) (old new
 pub record DoesJobs (world : World) (workers : ℕ) (jobs : List Job) (past : List Receipt) : Type 0 where
   pub report : ReportView
   pub shift : IsShift world jobs workers past report
+
+-- the legal history of a gate was written after earlier output, as it stood
+pub record WritesHistory (old new : Option (List ℕ)) : Type 0 where
+  pub gate : Gate
+  pub legal : HasLegalHistory gate
+  pub wrote : Appends old new (spell_segment (present_segment gate))

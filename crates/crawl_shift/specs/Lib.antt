@@ -4,6 +4,8 @@ pub mod ClosedText
 pub mod Histories
 pub mod JobLines
 pub mod JobLists
+pub mod LeftText
 pub mod NotShifted
+pub mod ReportText
 pub mod ShiftText
 pub mod TableText

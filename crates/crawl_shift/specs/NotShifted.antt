@@ -6,7 +6,7 @@ use Rattle.gate_settlement.specs.declared.settlement.SettleFault.TheVariants as 
 use Rattle.crawl_shift.specs.declared.job_lines.JobLinesFault.{JobLinesFault}
 use Rattle.crawl_shift.specs.declared.job_lines.JobLinesFault.TheVariants as jobs_fault
 use Rattle.crawl_shift.specs.declared.not_shifted.NotShifted.{NotShifted}
-use Rattle.crawl_shift.specs.declared.not_shifted.NotShifted.TheVariants.{BadLine, NoMemory, Device}
+use Rattle.crawl_shift.specs.declared.not_shifted.NotShifted.TheVariants.{BadLine, NoMemory, Device, Over}
 
 -- the jobs were not read
 abbrev pub by_jobs : JobLinesFault → NotShifted
@@ -18,5 +18,6 @@ by_jobs jobs_fault.NoMemory = NoMemory
 abbrev pub by_workers : ShiftFault → NotShifted
 by_workers shift.NoMemory = NoMemory
 by_workers shift.DesksFull = Device
+by_workers shift.Over = Over
 by_workers (shift.Unsettled settle.NoMemory) = NoMemory
 by_workers (shift.Unsettled _) = Device

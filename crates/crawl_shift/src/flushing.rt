@@ -30,6 +30,13 @@ enum WritePace {
     Shared,
 }
 
+/// Has no lines.
+impl Flushes for () {
+    fn begin(&self) {}
+
+    fn flush(&self) {}
+}
+
 /// How many lines wait, and when the next ones are written.
 #[derive(Clone, Copy)]
 pub(crate) struct Unwritten {

@@ -14,6 +14,8 @@ pub enum NotShifted {
     NoMemory,
     /// A read or a write failed, or others used the gate too.
     Device,
+    /// The shift ended early, with jobs left. What was done is written.
+    Over,
 }
 
 impl From<JobLinesFault> for NotShifted {
@@ -65,6 +67,7 @@ impl From<ShiftFault> for NotShifted {
                 NotShifted::NoMemory
             }
             ShiftFault::DesksFull | ShiftFault::Unsettled(_) => NotShifted::Device,
+            ShiftFault::Over => NotShifted::Over,
         }
     }
 }

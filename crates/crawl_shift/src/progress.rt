@@ -1,15 +1,16 @@
 //! The report of a shift, written during the work: each job's lines follow those of all jobs before it.
 use crate::flushing::{Flushes, Unwritten};
-use crate::report_text::sums;
-use command_lines::push_hops;
-use counted_io::{Counted, DeviceFault, Output, Sink};
+use crate::not_shifted::NotShifted;
+use crate::report_lines::{end_report, finish_report, take_job};
+use crate::sums::Sums;
+use counted_io::{DeviceFault, Sink};
 use crawl_job::{Hop, Job, Outcome};
 use crawl_workers::{Crawled, Watcher};
 use fetchers::Fetcher;
-use line_text::Piece;
 use page_worker::Event;
 use std::alloc::{AllocError, Global};
 use std::sync::{Mutex, Wait};
+use texts_in_order::TextsInOrder;
 
 /// A watcher that writes the report. Its lock is taken only by a worker that holds no other lock.
 #[derive(Drop)]
@@ -19,20 +20,16 @@ pub(crate) struct Progress<'a, 's, W: Sink, F: Fetcher, R: Wait> {
     lines: Mutex<Lines<'s, W>>,
 }
 
-// The written lines, and those that wait for others.
+// The lines of jobs, which are written in order.
 #[derive(Drop)]
 struct Lines<'s, W: Sink> {
     sink: &'s mut W,
-    output: Output,
+    texts: TextsInOrder,
     unwritten: Unwritten,
-    // How many jobs, from the first on, have their lines written or buffered.
-    next: u64,
-    // The lines of jobs done before earlier ones, by job number.
-    waiting: Vec<Option<Vec<u8>>>,
-    // Formats waiting lines.
-    spelling: Output,
     // Whether a write failed; nothing is written after that.
     failed: bool,
+    // Whether there was no memory for lines that have to wait.
+    lost: bool,
 }
 
 impl<'a, 's, W: Sink, F: Fetcher, R: Wait> Progress<'a, 's, W, F, R> {
@@ -45,18 +42,13 @@ impl<'a, 's, W: Sink, F: Fetcher, R: Wait> Progress<'a, 's, W, F, R> {
         fetcher: &'a F,
         jobs: usize,
     ) -> Result<Progress<'a, 's, W, F, R>, AllocError> {
-        let mut waiting = Vec::with_capacity(alloc, jobs)?;
-        for _ in 0..jobs {
-            waiting.push(None)?;
-        }
         let lines = Mutex::new(Lines {
             sink,
-            output: Output::new(alloc)?,
+            // (the last line is one more)
+            texts: TextsInOrder::new(alloc, jobs.saturating_add(1))?,
             unwritten: Unwritten::none(),
-            next: 0,
-            waiting,
-            spelling: Output::new(alloc)?,
             failed: false,
+            lost: false,
         });
         Ok(Progress { rt, fetcher, lines })
     }
@@ -64,6 +56,12 @@ impl<'a, 's, W: Sink, F: Fetcher, R: Wait> Progress<'a, 's, W, F, R> {
     /// Writes the remaining jobs, and the last line.
     pub(crate) fn finish(self, outcomes: &[Crawled], starts: u64) -> Result<(), DeviceFault> {
         self.lines.into_inner().finish(outcomes, starts)
+    }
+
+    /// Writes the lines of the jobs that are done, and the last line with how many are left. Without memory
+    /// for a job's lines the report ends before them.
+    pub(crate) fn end(self, done: Sums, left: u64) -> Result<(), NotShifted> {
+        self.lines.into_inner().end(done, left)
     }
 }
 
@@ -104,73 +102,46 @@ impl<W: Sink, F: Fetcher, R: Wait> Flushes for Progress<'_, '_, W, F, R> {
 impl<W: Sink> Lines<'_, W> {
     // Takes the lines of a job, which may have to wait for those of earlier jobs.
     fn take(&mut self, number: u64, hops: &[Hop]) {
-        if self.failed {
-            return;
-        }
-        if number == self.next {
-            self.failed = self.write(hops).is_err();
-            return;
-        }
-        let text = self.spell(number, hops).ok();
-        if let Some(slot) = self.waiting.get_mut(number as usize) {
-            *slot = text;
+        if !self.failed {
+            self.failed = self.write(number, hops).is_err();
         }
     }
 
-    // Buffers the lines of the next job, and those that waited for it.
-    fn write(&mut self, hops: &[Hop]) -> Result<(), DeviceFault> {
-        let behind = self.next.saturating_add(1);
-        push_hops(Piece::Number(behind), 1, hops, &mut self.output, self.sink)?;
-        self.next = behind;
-        for number in behind..self.waiting.len() as u64 {
-            let Some(text) = self.waiting[number as usize].take() else {
-                break;
-            };
-            self.output.push(self.sink, text.as_slice())?;
-            self.next = number + 1;
+    // Passes on the lines of a job, and those that waited for it, and writes them if they are due.
+    fn write(&mut self, number: u64, hops: &[Hop]) -> Result<(), DeviceFault> {
+        let before = self.texts.passed();
+        take_job(&mut self.texts, number as usize, hops, self.sink)?;
+        if !self.texts.is_known(number as usize) {
+            self.lost = true;
         }
         // (each job has at least one line)
-        if self
-            .unwritten
-            .add(self.next.saturating_sub(behind).saturating_add(1))
-        {
+        let more = self.texts.passed().saturating_sub(before);
+        if more > 0 && self.unwritten.add(more as u64) {
             return self.flush();
         }
         Ok(())
     }
 
     fn flush(&mut self) -> Result<(), DeviceFault> {
-        self.output.flush(self.sink)
-    }
-
-    // The lines of a job. Its only fault is out of memory.
-    fn spell(&mut self, number: u64, hops: &[Hop]) -> Result<Vec<u8>, DeviceFault> {
-        let mut text = Counted::new(Vec::new(*self.waiting.allocator()));
-        push_hops(
-            Piece::Number(number.saturating_add(1)),
-            1,
-            hops,
-            &mut self.spelling,
-            &mut text,
-        )?;
-        self.spelling.flush(&mut text)?;
-        Ok(text.into_inner())
+        self.texts.flush(self.sink)
     }
 
     fn finish(&mut self, outcomes: &[Crawled], starts: u64) -> Result<(), DeviceFault> {
         if self.failed {
             return Err(DeviceFault);
         }
-        let mut hops: u64 = 0;
-        for (number, crawled) in outcomes.iter().enumerate() {
-            let own = crawled.hops.as_slice();
-            if self.next <= number as u64 {
-                let lead = Piece::Number(number as u64 + 1);
-                push_hops(lead, 1, own, &mut self.output, self.sink)?;
-            }
-            hops = hops.saturating_add(own.len() as u64);
+        finish_report(&mut self.texts, outcomes, starts, self.sink)
+    }
+
+    fn end(&mut self, done: Sums, left: u64) -> Result<(), NotShifted> {
+        if self.failed {
+            return Err(NotShifted::Device);
         }
-        sums(outcomes.len() as u64, hops, starts).push(&mut self.output, self.sink)?;
-        self.output.flush(self.sink)
+        if self.lost {
+            self.flush()?;
+            return Err(NotShifted::NoMemory);
+        }
+        end_report(&mut self.texts, done, left, self.sink)?;
+        Ok(())
     }
 }

@@ -4,16 +4,17 @@ ghost use Rattle.std.specs.Prelude.{◌≡◌, ◌≤◌, [], IfOk, OnOk, length
 ghost use Rattle.crawl_workers.specs.Shifts.{IsShift};
 ghost use Rattle.page_worker.specs.World.{world_of};
 ghost use Rattle.job_line.specs.Limits.{IsCrew, max_jobs};
-ghost use Rattle.crawl_shift.specs.Histories.{AreWholeHistory, DoesJobs, WritesJobs, WritesReceipts};
+ghost use Rattle.crawl_shift.specs.Histories.{AreWholeHistory, DoesJobs, WritesHistory, WritesJobs, WritesReceipts};
 
 use crate::both::Both;
+use crate::early_end::{EarlyEnd, UntilEnd};
 use crate::flushing::{Flushes, ShiftWork, flush_in_time};
 use crate::job_lines::{BadLines, read_job_lines};
 use crate::not_shifted::NotShifted;
 use crate::progress::Progress;
 use crate::status_line::StatusLine;
 use crate::table::Table;
-use counted_io::{Output, Sink, Source};
+use counted_io::{DeviceFault, Output, Sink, Source};
 use crawl_job::Job;
 use crawl_workers::{Report, ShiftCrew, ShiftFault, Watcher};
 use fetchers::Fetcher;
@@ -28,7 +29,7 @@ use std::time::Duration;
 use std::{thread, time};
 
 /// The settings of a shift: how many workers fetch with `fetcher` by `clock`, the delay between the begins
-/// of two fetches at a site, and the `status` line.
+/// of two fetches at a site, the `status` line, and what may end it `early`.
 #[derive(Drop)]
 pub struct Shift<'a, 's, E: Sink, F, C, R: Wait + time::Clock> {
     pub rt: &'a R,
@@ -38,6 +39,7 @@ pub struct Shift<'a, 's, E: Sink, F, C, R: Wait + time::Clock> {
     pub fetcher: &'a F,
     pub clock: &'a C,
     pub status: &'a StatusLine<'s, E, R>,
+    pub early: &'a EarlyEnd<'s, R>,
 }
 
 impl<
@@ -68,7 +70,8 @@ impl<
 
     /// Does these jobs over a gate with these receipts of earlier entries, and writes the report, with the
     /// starts of its own jobs; the watcher gets their events too. After a failed write of the report nothing
-    /// more is fetched.
+    /// more is fetched. If the shift ends early, the report has the jobs that are done, and its last line how
+    /// many are left.
     pub fn report<G: Gate + Send + Sync, W: Sink + Send, V: Watcher + Sync>(
         &self,
         jobs: &[Job],
@@ -85,14 +88,35 @@ impl<
     {
         let before = starts_of(past.as_slice());
         let progress = Progress::new(self.rt, self.alloc, writer, self.fetcher, jobs.len())?;
-        let report = self.run_flushed(jobs, gate, past, &progress, watcher)?;
-        let starts = report.settled.starts().saturating_sub(before);
-        progress.finish(report.outcomes.as_slice(), starts)?;
-        Ok(())
+        match self.run_flushed(jobs, gate, past, &progress, watcher) {
+            Ok(report) => {
+                let starts = report.settled.starts().saturating_sub(before);
+                progress.finish(report.outcomes.as_slice(), starts)?;
+                Ok(())
+            }
+            Err(fault) => Err(self.end_report(progress, fault, jobs.len() as u64)),
+        }
+    }
+
+    // Ends a report after a fault, with the jobs that are done if the shift ended early.
+    fn end_report<W: Sink>(
+        &self,
+        progress: Progress<'_, '_, W, F, R>,
+        fault: ShiftFault,
+        jobs: u64,
+    ) -> NotShifted {
+        if fault != ShiftFault::Over {
+            return NotShifted::from(fault);
+        }
+        let done = self.early.sums();
+        match progress.end(done, jobs.saturating_sub(done.jobs)) {
+            Ok(()) => NotShifted::Over,
+            Err(fault) => fault,
+        }
     }
 
     /// Does these jobs over a gate with these receipts of earlier entries, and writes a table: a line for each
-    /// hop soon after its end.
+    /// hop soon after its end, also if the shift ends early.
     pub fn table<G: Gate + Send + Sync, W: Sink + Send>(
         &self,
         jobs: &[Job],
@@ -107,14 +131,24 @@ impl<
             self.now.workers jobs.now past.items) }
     {
         let table = Table::new(self.rt, self.alloc, writer, self.fetcher)?;
-        self.run_flushed(jobs, gate, past, &table, &())?;
-        table.finish()?;
-        Ok(())
+        let ran = self.run_flushed(jobs, gate, past, &table, &());
+        let wrote = table.finish();
+        match ran {
+            Ok(_) => {
+                wrote?;
+                Ok(())
+            }
+            Err(ShiftFault::Over) => {
+                wrote?;
+                Err(NotShifted::Over)
+            }
+            Err(fault) => Err(NotShifted::from(fault)),
+        }
     }
 
     /// Does these jobs over the gate, and writes its history by the workers' receipts; the watcher gets their
-    /// events. An audit of it shows that each page was allowed when its fetch began. Nothing is written
-    /// unless all jobs were done.
+    /// events. An audit of it shows that each page was allowed when its fetch began. If the shift ends early,
+    /// the history is written as it stands; after another fault nothing is.
     pub fn history<G: Gate + Send + Sync, W: Sink, V: Watcher + Sync>(
         &self,
         jobs: &[Job],
@@ -129,13 +163,22 @@ impl<
             self.now.workers jobs.now (W.written writer.old) (W.written writer.new)) }
     {
         let mut output = Output::new(self.alloc)?;
-        let report = self.run_told(jobs, gate, Vec::new(self.alloc), watcher)?;
-        let held = gate.lend(self.rt);
-        write_receipts(self.alloc, &held, &report.receipts, &mut output, writer)
+        let ran = self.run_flushed(jobs, gate, Vec::new(self.alloc), &(), watcher);
+        match ran {
+            Ok(report) => {
+                let held = gate.lend(self.rt);
+                write_receipts(self.alloc, &held, &report.receipts, &mut output, writer)
+            }
+            Err(ShiftFault::Over) => {
+                write_as_it_stands(&gate.lend(self.rt), &mut output, writer)?;
+                Err(NotShifted::Over)
+            }
+            Err(fault) => Err(NotShifted::from(fault)),
+        }
     }
 
-    // Like `run_both`, with a thread that flushes the first watcher in time. Without a second thread each line
-    // is written at once.
+    // Like `run_both`, with a thread that flushes the first watcher in time, and stops the fetches if the shift
+    // is to end early. Without a second thread each line is written at once.
     fn run_flushed<G: Gate + Send + Sync, A: Watcher + Flushes + Sync, B: Watcher + Sync>(
         &self,
         jobs: &[Job],
@@ -151,13 +194,19 @@ impl<
             jobs.now self.now.workers past.items) }
     {
         let work = ShiftWork::not_begun();
+        let until = UntilEnd {
+            early: self.early,
+            fetcher: self.fetcher,
+            watcher: first,
+        };
+        self.early.expect(jobs.len())?;
         let (report, ()) = thread::join(
             self.rt,
             || -> Result<Report<G>, ShiftFault>
                 requires jobs { length jobs.now ≤ max_jobs }
                 requires workers { IsCrew self.now.workers }
-            { self.run_to_end(jobs, gate, past, first, second, &work) },
-            || flush_in_time(self.rt, first, &work),
+            { self.run_to_end(jobs, gate, past, &until, second, &work) },
+            || flush_in_time(self.rt, &until, &work),
         );
         report
     }
@@ -270,6 +319,19 @@ fn write_receipts<G: Gate, W: Sink>(
     compare(alloc, held, receipts)?;
     export(held.book(), output, writer)?;
     Ok(())
+}
+
+// Writes the locked gate's history, of a shift that ended early.
+fn write_as_it_stands<G: Gate, W: Sink>(
+    held: &Held<'_, G>,
+    output: &mut Output,
+    writer: &mut W,
+) -> Result<(), DeviceFault>
+    requires { output.old ≡ [] }
+    ensures { OnOk result (WritesHistory (W.written writer.old) (W.written writer.new)) }
+{
+    let book = held.book();
+    export(book, output, writer)
 }
 
 // Whether the receipts are the gate's whole history. For a settled shift this is already true; the check,

@@ -17,7 +17,7 @@ use fetchers::Fetcher;
 use gate_lock::{Desk, Gate, GateLock, Receipts};
 use job_line::{JobLine, JobSeat};
 use page_worker::{Clock, Event, EventObserver, work_observed};
-use std::alloc::{AllocError, Global};
+use std::alloc::Global;
 use std::marker::Model;
 use std::sync::Wait;
 
@@ -129,7 +129,7 @@ impl<F: Fetcher, C: Clock, W: Watcher, P: Pace> Crew<'_, F, C, W, P> {
         alloc: Global,
         desk: &mut Desk<'_, G>,
         work: &mut Work,
-    ) -> Result<(), AllocError>
+    ) -> Result<(), ShiftFault>
         requires new { IsNewWork self.now.line.now self.now.counts.now work.old
             × (receipt_of desk.old ≡ record { sealed = nothing_sealed; marks = [] }) }
         ensures out { KeepsOut desk.old desk.new }
@@ -157,7 +157,7 @@ impl<F: Fetcher, C: Clock, W: Watcher, P: Pace> Crew<'_, F, C, W, P> {
         alloc: Global,
         desk: &mut Desk<'_, G>,
         work: &mut Work,
-    ) -> Result<(), AllocError>
+    ) -> Result<(), ShiftFault>
         requires seat { IsAtLine self.now.line.now self.now.counts.now work.old.seat }
         requires so_far { HasWorked
             (world_of (F.gives self.now.fetcher.now) (F.follows self.now.fetcher.now) (C.reads self.now.clock.now))
@@ -182,7 +182,7 @@ impl<F: Fetcher, C: Clock, W: Watcher, P: Pace> Crew<'_, F, C, W, P> {
         site: usize,
         desk: &mut Desk<'_, G>,
         work: &mut Work,
-    ) -> Result<(), AllocError>
+    ) -> Result<(), ShiftFault>
         requires seat { IsAtLine self.now.line.now self.now.counts.now work.old.seat }
         requires so_far { HasWorked
             (world_of (F.gives self.now.fetcher.now) (F.follows self.now.fetcher.now) (C.reads self.now.clock.now))
@@ -203,7 +203,7 @@ impl<F: Fetcher, C: Clock, W: Watcher, P: Pace> Crew<'_, F, C, W, P> {
         unreachable!()
     }
 
-    // Draws and does a job at a site; false if there was none.
+    // Draws and does a job at a site; false if there was none. Once the shift is over a drawn job is not done.
     fn draw_one<G: Gate, R: Wait>(
         &self,
         rt: &R,
@@ -211,7 +211,7 @@ impl<F: Fetcher, C: Clock, W: Watcher, P: Pace> Crew<'_, F, C, W, P> {
         site: usize,
         desk: &mut Desk<'_, G>,
         work: &mut Work,
-    ) -> Result<bool, AllocError>
+    ) -> Result<bool, ShiftFault>
         requires seat { IsAtLine self.now.line.now self.now.counts.now work.old.seat }
         requires so_far { HasWorked
             (world_of (F.gives self.now.fetcher.now) (F.follows self.now.fetcher.now) (C.reads self.now.clock.now))
@@ -227,6 +227,9 @@ impl<F: Fetcher, C: Clock, W: Watcher, P: Pace> Crew<'_, F, C, W, P> {
         let Some(index) = self.line.draw_at(&mut work.seat, site) else {
             return Ok(false);
         };
+        if self.watcher.is_over() {
+            return Err(ShiftFault::Over);
+        }
         let number = self.order[index as usize];
         self.do_next(rt, alloc, number, desk, work)?;
         Ok(true)
@@ -240,7 +243,7 @@ impl<F: Fetcher, C: Clock, W: Watcher, P: Pace> Crew<'_, F, C, W, P> {
         number: u64,
         desk: &mut Desk<'_, G>,
         work: &mut Work,
-    ) -> Result<(), AllocError>
+    ) -> Result<(), ShiftFault>
         requires job { number < length self.now.jobs.now }
         requires so_far { HasDone
             (world_of (F.gives self.now.fetcher.now) (F.follows self.now.fetcher.now) (C.reads self.now.clock.now))
@@ -261,7 +264,7 @@ impl<F: Fetcher, C: Clock, W: Watcher, P: Pace> Crew<'_, F, C, W, P> {
         Ok(())
     }
 
-    // Does a job and reports it. Its body is dropped here.
+    // Does a job and reports it. Its body is dropped here. A job that the end of the shift cut off is not done.
     fn do_job<G: Gate, R: Wait>(
         &self,
         rt: &R,
@@ -269,7 +272,7 @@ impl<F: Fetcher, C: Clock, W: Watcher, P: Pace> Crew<'_, F, C, W, P> {
         number: u64,
         job: &Job,
         desk: &mut Desk<'_, G>,
-    ) -> Result<Done, AllocError>
+    ) -> Result<Done, ShiftFault>
         requires { slice_get self.now.jobs.now number ≡ Some job.now }
         ensures number { IfOk result (λ done. done.number ≡ number) }
         ensures out { KeepsOut desk.old desk.new }
@@ -286,10 +289,10 @@ impl<F: Fetcher, C: Clock, W: Watcher, P: Pace> Crew<'_, F, C, W, P> {
         };
         let (fetcher, clock) = (self.fetcher, self.clock);
         let outcome = work_observed(rt, alloc, job.copy()?, desk, fetcher, clock, &notifier)?;
-        self.watcher.done(number, job, &outcome);
-        if self.sites.pauses() && self.watcher.is_over() {
-            self.sites.end_pauses(rt);
+        if self.watcher.is_over() {
+            return Err(ShiftFault::Over);
         }
+        self.watcher.done(number, job, &outcome);
         let Outcome { hops, body: _ } = outcome;
         Ok(Done {
             number,

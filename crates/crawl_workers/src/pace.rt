@@ -5,22 +5,26 @@ ghost use Rattle.std.specs.Duration.{as_nanos};
 ghost use Rattle.std.specs.Time.{instant_nanos};
 ghost use Rattle.crawl_workers.specs.Pauses.{begun_at, later_of, wait_of};
 
+use crate::report::Watcher;
 use std::sync::{Condvar, MutexGuard, Wait};
 use std::time::{Duration, Instant};
 use std::{thread, time};
 
+// The most seconds of a wait, so that the end of a shift is noticed.
+const LOOK_SECONDS: u64 = 1;
+
 /// The clock for the pauses between fetches.
 pub(crate) trait Pace {
-    /// The least time between the begins of two fetches at a site; zero for no pauses.
-    fn delay(&self) -> Duration;
+    /// Whether the shift is to end, so that nothing is waited for.
+    fn is_over(&self) -> bool;
 
     /// The moment now, if the clock can be read.
     fn now(&self) -> Option<Instant>;
 
-    /// Waits so long.
+    /// Waits so long, or until the shift is to end.
     fn sleep(&self, time: Duration);
 
-    /// Waits until the condition variable is notified, at most this long.
+    /// Waits until the condition variable is notified, at most this long and at most a second.
     fn wait<'b, T>(
         &self,
         told: &Condvar,
@@ -31,14 +35,14 @@ pub(crate) trait Pace {
 
 /// Pauses by the steady clock.
 #[derive(Drop)]
-pub(crate) struct Pauses<'a, R: Wait + time::Clock> {
+pub(crate) struct Pauses<'a, W: Watcher, R: Wait + time::Clock> {
     pub(crate) rt: &'a R,
-    pub(crate) delay: Duration,
+    pub(crate) watcher: &'a W,
 }
 
-impl<R: Wait + time::Clock> Pace for Pauses<'_, R> {
-    fn delay(&self) -> Duration {
-        self.delay
+impl<W: Watcher, R: Wait + time::Clock> Pace for Pauses<'_, W, R> {
+    fn is_over(&self) -> bool {
+        self.watcher.is_over()
     }
 
     fn now(&self) -> Option<Instant> {
@@ -46,7 +50,15 @@ impl<R: Wait + time::Clock> Pace for Pauses<'_, R> {
     }
 
     fn sleep(&self, time: Duration) {
-        thread::sleep(self.rt, time);
+        let mut left = time;
+        for _ in 0..=time.as_secs() {
+            if left.is_zero() || self.is_over() {
+                return;
+            }
+            let step = left.min(Duration::from_secs(LOOK_SECONDS));
+            thread::sleep(self.rt, step);
+            left = left.saturating_sub(step);
+        }
     }
 
     fn wait<'b, T>(
@@ -55,6 +67,7 @@ impl<R: Wait + time::Clock> Pace for Pauses<'_, R> {
         guard: MutexGuard<'b, T>,
         most: Duration,
     ) -> MutexGuard<'b, T> {
+        let most = most.min(Duration::from_secs(LOOK_SECONDS));
         told.wait_timeout(self.rt, guard, most).0
     }
 }

@@ -48,6 +48,8 @@ pub enum ShiftFault {
     NoMemory,
     /// The gate has no desk for one of the workers.
     DesksFull,
+    /// The watcher said that the shift is over before all jobs were done.
+    Over,
     /// The jobs were done, but the shift's receipts don't settle the gate: others used it too.
     Unsettled(SettleFault),
 }
@@ -93,8 +95,8 @@ pub trait Watcher {
     /// The job of this number, from 0, is done with this outcome, bodies included.
     fn done(&self, number: u64, job: &Job, outcome: &Outcome);
 
-    /// Whether no more fetches are wanted, so that waits for fetches end. A shift with pauses asks after
-    /// each job.
+    /// Whether the shift is over, so that no fetch is wanted any more. A worker asks once it has drawn a job,
+    /// and once it has worked at it, before it is done; in a pause it asks each second.
     fn is_over(&self) -> bool {
         false
     }

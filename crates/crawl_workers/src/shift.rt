@@ -97,6 +97,9 @@ impl<
     /// other sites have jobs. The report keeps the order of the jobs, and its number of started fetches
     /// includes the earlier ones.
     ///
+    /// Once the watcher says that the shift is over, no job is begun, and one that is not done by then counts
+    /// as not done: if any is left, the fault is `Over`.
+    ///
     /// A worker's fault is returned before one of settling. After a fault the shift has nothing outstanding,
     /// but its receipts are lost: a gate in which it made an entry can't be settled any more.
     pub fn run<G: Gate + Send + Sync>(
@@ -158,7 +161,10 @@ impl<
             fetcher: self.fetcher,
             clock: self.clock,
             watcher: self.watcher,
-            pace: &Pauses { rt, delay },
+            pace: &Pauses {
+                rt,
+                watcher: self.watcher,
+            },
         };
         let handover = crew.do_all(rt, alloc, gate, seats)?;
         let Handover {

@@ -65,9 +65,12 @@ impl ShiftSites {
     }
 
     /// Enters the next site in turn for one job; none once workers have entered for all jobs. Waits while a
-    /// worker would have to wait at each site with jobs left.
+    /// worker would have to wait at each site with jobs left, but for no pause once the shift is over.
     pub(crate) fn enter<P: Pace, R: Wait>(&self, rt: &R, pace: &P) -> Option<usize> {
         'tries: for _ in rt.forever() {
+            if self.pauses() && pace.is_over() {
+                self.end_pauses(rt);
+            }
             let now = self.moment_by(pace);
             let waiting = self.waiting.lock(rt);
             let mut waiting = self.wait_while_stuck(rt, pace, waiting, now);
@@ -113,12 +116,15 @@ impl ShiftSites {
         pace.now()
     }
 
-    /// Waits until a fetch at the authority may begin, and notes its begin.
+    /// Waits until a fetch at the authority may begin, and notes its begin; or until the shift is over.
     pub(crate) fn await_turn<P: Pace, R: Wait>(&self, rt: &R, pace: &P, authority: &str) {
         if self.delay.is_zero() {
             return;
         }
         for _ in rt.forever() {
+            if pace.is_over() {
+                return self.end_pauses(rt);
+            }
             let Some(now) = pace.now() else {
                 // Without a clock nothing is known of the last fetch.
                 pace.sleep(self.delay);
@@ -137,14 +143,17 @@ impl ShiftSites {
         }
     }
 
-    pub(crate) fn pauses(&self) -> bool {
+    fn pauses(&self) -> bool {
         !self.delay.is_zero()
     }
 
-    /// Ends all pauses, and wakes the workers that wait for them.
-    pub(crate) fn end_pauses<R: Wait>(&self, rt: &R) {
-        self.waiting.lock(rt).delay = Duration::ZERO;
-        self.freed.notify_all();
+    // Ends all pauses, and wakes the workers that wait for them.
+    fn end_pauses<R: Wait>(&self, rt: &R) {
+        let mut waiting = self.waiting.lock(rt);
+        if !waiting.delay.is_zero() {
+            waiting.delay = Duration::ZERO;
+            self.freed.notify_all();
+        }
     }
 
     /// Notes that a fetch at the authority begins now, without waiting.

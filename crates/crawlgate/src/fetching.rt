@@ -2,7 +2,7 @@
 //! RFC 9309, section 2.2.1; RFC 9110, section 10.1.5.
 ghost use Rattle.program_arguments.specs.Contacts.{IsAllowedContact};
 
-use fetchers::TcpFetcher;
+use fetchers::{FULL_CLOSURE, TcpFetcher};
 use http_client::{AddressBlock, Reach, TimeLimits};
 use program_arguments::Contact;
 use std::alloc::AllocError;
@@ -22,6 +22,8 @@ pub(crate) struct Ways<'a> {
     pub(crate) not_to: &'a [AddressBlock],
     /// The address of the program that opens TLS; without one only `http` is fetched.
     pub(crate) tls_by: Option<SocketAddr>,
+    /// For how many seconds a network fault keeps a site closed, if not for its answer's life.
+    pub(crate) retry_closed: Option<u64>,
     /// How many octets of robots texts are kept together, if that is bounded.
     pub(crate) texts: Option<u64>,
     /// How many octets of a page are read at most, if not the usual number.
@@ -39,6 +41,7 @@ pub(crate) fn new_fetcher(
     let alloc = host.alloc();
     let fetcher = TcpFetcher::with_tls(alloc, *host, AGENT, ways.times, ways.reach, ways.tls_by)?;
     let fetcher = fetcher.avoiding(Vec::from_slice(alloc, ways.not_to)?);
+    let fetcher = fetcher.retrying_closed(ways.retry_closed.unwrap_or(FULL_CLOSURE));
     let fetcher = fetcher.keeping(ways.texts.unwrap_or(u64::MAX));
     let fetcher = match ways.page_limit {
         Some(most) => fetcher.with_page_limit(most as usize),

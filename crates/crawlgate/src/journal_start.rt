@@ -15,8 +15,8 @@ use path_normal::{Authority, Schemes};
 use program_arguments::JournalOptions;
 use program_commands::{
     Ending, Reasoned, new_book, tell_bad_folder, tell_bad_journal, tell_begins_alone,
-    tell_clock_set_back, tell_few_slots, tell_full_journal, tell_short_journal, tell_torn_line,
-    tell_unread_journal,
+    tell_clock_set_back, tell_failed_journal, tell_few_slots, tell_full_journal, tell_left_alone,
+    tell_no_room_to_end, tell_short_journal, tell_torn_line, tell_unread_journal,
 };
 use std::fs::File;
 use std::hash::RandomState;
@@ -57,12 +57,15 @@ pub(crate) fn open_journal<'a>(
     };
     let name = options.folder.as_str();
     match Folder::open(*host, name) {
-        Ok(folder) => Ok(Some(OpenJournal {
-            name,
-            folder,
-            sync: options.sync,
-            room: options.room,
-        })),
+        Ok(folder) => {
+            tell_left_alone(host, name, folder.foreign_names(), folder.unread_names());
+            Ok(Some(OpenJournal {
+                name,
+                folder,
+                sync: options.sync,
+                room: options.room,
+            }))
+        }
         Err(fault) => Err(tell_bad_folder(host, name, fault)),
     }
 }
@@ -81,7 +84,7 @@ pub(crate) fn begin_with(
         return begin_new(host, limits);
     };
     match journal.folder.last_file() {
-        Ok(Some(file)) => go_on_if_named(host, limits, file),
+        Ok(Some(file)) => go_on_if_named(host, limits, journal.name, file),
         Ok(None) => begin_new(host, limits),
         Err(fault) => Err(tell_bad_folder(host, journal.name, fault)),
     }
@@ -118,6 +121,7 @@ pub(crate) fn clock_of<'a, R: Wait + time::Clock>(
 fn go_on_if_named(
     host: &HostRuntime,
     limits: Limits,
+    folder: &str,
     file: LastFile,
 ) -> Result<JournalStart, Ending>
     requires { AreLimits limits }
@@ -131,11 +135,16 @@ fn go_on_if_named(
     if let Some(entries) = file.begins_alone() {
         tell_begins_alone(host, file.path(), entries);
     }
-    go_on(host, limits, file)
+    go_on(host, limits, folder, file)
 }
 
 // Reads a journal's last file behind the one before it, and ends its text.
-fn go_on(host: &HostRuntime, limits: Limits, file: LastFile) -> Result<JournalStart, Ending>
+fn go_on(
+    host: &HostRuntime,
+    limits: Limits,
+    folder: &str,
+    file: LastFile,
+) -> Result<JournalStart, Ending>
     requires { AreLimits limits }
     ensures { IfOk result (λ begun. IsIdle begun.book) }
 {
@@ -154,7 +163,7 @@ fn go_on(host: &HostRuntime, limits: Limits, file: LastFile) -> Result<JournalSt
     let reason = reader.into_inner().reason;
     match resumed {
         Ok(resumed) => match text.in_last(resumed.whole) {
-            Some(whole) => end_file(host, file, resumed, whole),
+            Some(whole) => end_file(host, folder, file, resumed, whole),
             // The last file has no whole line.
             None => Err(tell_short_journal(host, file.path(), 1)),
         },
@@ -165,6 +174,7 @@ fn go_on(host: &HostRuntime, limits: Limits, file: LastFile) -> Result<JournalSt
 // Ends the text of a journal's last file after so many octets, from which the gate continues.
 fn end_file(
     host: &HostRuntime,
+    folder: &str,
     file: LastFile,
     resumed: Resumed,
     whole: u64,
@@ -186,8 +196,8 @@ fn end_file(
     }
     match file.end(whole, ending.as_slice()) {
         Ok(()) => Ok(JournalStart { book, sites: begun }),
-        Err(JournalFault::Device(cause)) => Err(tell_unread_journal(host, cause)),
-        Err(_) => Err(Ending::NoMemory),
+        Err(JournalFault::NoRoom(octets)) => Err(tell_no_room_to_end(host, folder, octets)),
+        Err(fault) => Err(tell_failed_journal(host, folder, fault)),
     }
 }
 

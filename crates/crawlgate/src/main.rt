@@ -3,10 +3,12 @@
 #![tactic(auto)]
 
 mod fetching;
+mod http_place;
 mod journal_start;
 mod recorded_shift;
 mod serving;
 mod tls_program;
+mod until_pipe;
 
 ghost use Rattle.std.specs.Prelude.{◌≡◌, ◌≤◌, IfOk, length};
 ghost use Rattle.gate_core.specs.Resuming.{IsIdle};
@@ -18,11 +20,12 @@ use crate::journal_start::{JournalStart, OpenJournal, Past, begin_with, clock_of
 use crate::recorded_shift::shift_recorded;
 use crate::serving::serve;
 use crate::tls_program::find_tls_program;
+use crate::until_pipe::asked_by;
 use counted_io::{Counted, Sink};
 use crawl_job::Job;
 use crawl_shift::{
-    BadJobLine, BadLines, ClosedSites, JobLines, JobLinesFault, NotShifted, Shift, StatusLine,
-    read_job_lines, tell_bad_lines,
+    BadJobLine, BadLines, ClosedSites, EarlyEnd, JobLines, JobLinesFault, NotShifted, Shift,
+    StatusLine, read_job_lines, tell_bad_lines,
 };
 use fetchers::Fetcher;
 use gate_lock::{Blanks, Gate, GateLock};
@@ -65,36 +68,36 @@ fn shift<R: Threads + Wait + time::Clock + Sync>(
         reach: options.reach,
         not_to: options.not_to.as_slice(),
         tls_by: options.tls_by,
+        retry_closed: options.retry_closed,
         texts: None,
         page_limit: None,
     };
     let Ok(fetcher) = new_fetcher(host, ways, &options.contact) else {
         return Err(Ending::NoMemory);
     };
+    let asked = asked_by(rt, host, &options.until)?;
+    let early = EarlyEnd::new(rt, host.alloc(), &asked);
     let journal = open_journal(host, &options.journal)?;
     let begun = begin_with(host, options.limits, &journal)?;
-    shift_watched(rt, host, &options, begun, journal, &fetcher)
+    shift_watched(rt, host, &options, begun, journal, &fetcher, &early)
 }
 
 // Does it with a progress line if standard error is a watched terminal.
-fn shift_watched<F: Fetcher + Sync, R: Threads + Wait + time::Clock + Sync>(
-    rt: &R,
+fn shift_watched<'r, F: Fetcher + Sync, R: Threads + Wait + time::Clock + Sync>(
+    rt: &'r R,
     host: &HostRuntime,
     options: &ShiftOptions,
     begun: JournalStart,
     journal: Option<OpenJournal<'_>>,
-    fetcher: &F,
+    fetcher: &'r F,
+    early: &'r EarlyEnd<'r, R>,
 ) -> Result<Ending, Ending>
     requires options { AreForShift options.now }
     requires book { IsIdle begun.book }
 {
     let clock = clock_of(rt, host, &begun.book);
     let mut errors = Counted::new(host.stderr());
-    let sink = if is_watched(host) {
-        Some(&mut errors)
-    } else {
-        None
-    };
+    let sink = watched(is_watched(host), &mut errors);
     let Ok(status) = StatusLine::new(rt, host.alloc(), sink) else {
         return Err(Ending::NoMemory);
     };
@@ -106,9 +109,15 @@ fn shift_watched<F: Fetcher + Sync, R: Threads + Wait + time::Clock + Sync>(
         fetcher,
         clock: &clock,
         status: &status,
+        early,
     };
     let blanks = Blanks::new();
     shift_jobs::<Brand, _, _, _, _>(host, options, &shift, begun, journal, blanks)
+}
+
+// What a progress line is written to, if anybody watches.
+fn watched<W: Sink>(is_watched: bool, sink: &mut W) -> Option<&mut W> {
+    if is_watched { Some(sink) } else { None }
 }
 
 fn is_watched(host: &HostRuntime) -> bool {
@@ -186,5 +195,6 @@ fn shift_ending(end: Result<(), NotShifted>) -> Ending {
         Err(NotShifted::BadLine(_)) => Ending::BadLine,
         Err(NotShifted::NoMemory) => Ending::NoMemory,
         Err(NotShifted::Device) => Ending::Device,
+        Err(NotShifted::Over) => Ending::EndedEarly,
     }
 }

@@ -7,7 +7,7 @@ use crate::journal_start::{OpenJournal, Past};
 use crate::shift_ending;
 use counted_io::{Counted, Sink};
 use crawl_job::Job;
-use crawl_shift::{ClosedSites, NotShifted, Shift};
+use crawl_shift::{ClosedSites, EarlyEnd, NotShifted, Shift};
 use fetchers::Fetcher;
 use gate_journal::Recording;
 use gate_lock::{Gate, GateLock, Receipts};
@@ -181,6 +181,7 @@ impl<
             fetcher: &fetcher,
             clock: shift.clock,
             status: shift.status,
+            early: shift.early,
         };
         match self.receipts_before(&behind, past) {
             Ok(receipts) => self.write_jobs(host, &behind, jobs, receipts, told),
@@ -208,6 +209,9 @@ impl<
         let end = write_told(shift, jobs, &mut writer, gate, past, told, &closed);
         // (a failing standard error does not change the status)
         let _ = closed.tell(&mut Counted::new(host.stderr()));
+        if end == Err(NotShifted::Over) {
+            tell_left(host, shift.early, jobs);
+        }
         tell_failed(host, shift_ending(end), Stream::Output, writer.into_sink())
     }
 
@@ -250,6 +254,13 @@ impl<
             chronicle: self.chronicle,
             journal: self.journal,
         }
+    }
+}
+
+// Reports the jobs that are not done, ignoring a failing standard error.
+fn tell_left<R: Wait>(host: &HostRuntime, early: &EarlyEnd<'_, R>, jobs: &[Job]) {
+    if let Ok(left) = early.left(jobs) {
+        let _ = left.tell(&mut Counted::new(host.stderr()));
     }
 }
 

@@ -5,9 +5,10 @@ ghost use Rattle.job_line.specs.Limits.{IsCrew};
 ghost use Rattle.program_arguments.specs.Options.{AreForServe};
 
 use crate::fetching::{Ways, new_fetcher};
+use crate::http_place::{HttpPlace, open_http, tell_http_place};
 use crate::journal_start::{JournalStart, OpenJournal, Past, begin_with, clock_of, open_journal};
 use crate::tls_program::find_tls_program;
-use client_connections::Listener;
+use client_connections::{Connections, Listener, MAX_CONNECTIONS};
 use gate_journal::Recording;
 use gate_lock::{Blanks, Gate, GateLock};
 use gate_settlement::SettleFault;
@@ -17,7 +18,7 @@ use line_server::{Alarm, ServeFault, Served, Server};
 use program_arguments::{Ahead, ListenAddress, ServeOptions};
 use program_commands::{
     Ending, tell_failed_journal, tell_full_log, tell_listening, tell_listening_at, tell_no_place,
-    tell_sealing, tell_sealing_at, tell_served,
+    tell_sealing, tell_sealing_at, tell_served, tell_usual_end,
 };
 use std::marker::Brand;
 use std::sync::Wait;
@@ -89,17 +90,61 @@ fn listen_and_serve<R: Threads + Wait + time::Clock + Sync>(
     requires book { IsIdle begun.book }
 {
     let Some(place) = &options.seal_place else {
-        return serve_clients(rt, host, options, begun, listener, None, journal);
+        return visit_and_serve(rt, host, options, begun, listener, None, journal);
     };
     match listen(host, place) {
         Ok(overseers) => {
             let overseers = Some(&overseers);
-            let ending = serve_clients(rt, host, options, begun, listener, overseers, journal);
+            let ending = visit_and_serve(rt, host, options, begun, listener, overseers, journal);
             leave(host, place);
             ending
         }
         Err(error) => tell_no_place(host, place, &error),
     }
+}
+
+// Listens for clients of HTTP too, if the options say so, and serves.
+fn visit_and_serve<'e, R: Threads + Wait + time::Clock + Sync>(
+    rt: &'e R,
+    host: &HostRuntime,
+    options: &ServeOptions,
+    begun: JournalStart,
+    listener: &'e Listener,
+    overseers: Option<&'e Listener>,
+    journal: Option<OpenJournal<'_>>,
+) -> Ending
+    requires options { AreForServe options.now }
+    requires book { IsIdle begun.book }
+{
+    let Some(http) = &options.http else {
+        let entrances = Entrances {
+            clients: listener,
+            overseers,
+            http: None,
+        };
+        return serve_clients(rt, host, options, begun, entrances, journal);
+    };
+    match open_http(rt, host, http, options.workers) {
+        Ok(opened) => {
+            let entrances = Entrances {
+                clients: listener,
+                overseers,
+                http: Some(&opened),
+            };
+            let ending = serve_clients(rt, host, options, begun, entrances, journal);
+            leave(host, &http.place);
+            ending
+        }
+        Err(error) => tell_no_place(host, &http.place, &error),
+    }
+}
+
+// Where clients connect, and overseers and clients of HTTP beside them, if they do.
+#[derive(Drop)]
+struct Entrances<'a, R: Wait + time::Clock> {
+    clients: &'a Listener,
+    overseers: Option<&'a Listener>,
+    http: Option<&'a HttpPlace<'a, R>>,
 }
 
 fn listen(host: &HostRuntime, place: &ListenAddress) -> io::Result<Listener> {
@@ -109,16 +154,22 @@ fn listen(host: &HostRuntime, place: &ListenAddress) -> io::Result<Listener> {
     }
 }
 
-// Reports where it listens: only the listener knows the free port that it got.
-fn tell_places(
+// Reports where it listens: only the listeners know the free ports that they got.
+fn tell_places<F, C, A, R: Wait + time::Clock>(
     host: &HostRuntime,
     options: &ServeOptions,
-    clients: &Listener,
-    overseers: Option<&Listener>,
+    server: &Server<'_, F, C, A, R>,
 ) -> Ending {
-    let told = tell_place(host, &options.place, clients);
-    match (told, &options.seal_place, overseers) {
-        (Ending::Done, Some(place), Some(overseers)) => tell_seal_place(host, place, overseers),
+    let mut told = tell_place(host, &options.place, server.listener);
+    if let (Ending::Done, Some(place), Some(overseers)) = (
+        told,
+        &options.seal_place,
+        server.overseers,
+    ) {
+        told = tell_seal_place(host, place, overseers);
+    }
+    match (told, &options.http, server.http) {
+        (Ending::Done, Some(http), Some(entrance)) => tell_http_place(host, &http.place, entrance),
         _ => told,
     }
 }
@@ -150,14 +201,13 @@ fn leave(host: &HostRuntime, place: &ListenAddress) {
     }
 }
 
-// Serves this listener's clients, and overseers at another, if any.
+// Serves those that come in at these entrances.
 fn serve_clients<R: Threads + Wait + time::Clock + Sync>(
     rt: &R,
     host: &HostRuntime,
     options: &ServeOptions,
     begun: JournalStart,
-    listener: &Listener,
-    overseers: Option<&Listener>,
+    entrances: Entrances<'_, R>,
     journal: Option<OpenJournal<'_>>,
 ) -> Ending
     requires options { AreForServe options.now }
@@ -168,16 +218,19 @@ fn serve_clients<R: Threads + Wait + time::Clock + Sync>(
         reach: options.reach,
         not_to: options.not_to.as_slice(),
         tls_by: options.tls_by,
+        retry_closed: options.retry_closed,
         texts: options.texts,
         page_limit: Some(options.page_limit),
     };
     match new_fetcher(host, ways, &options.contact) {
         Ok(fetcher) => {
+            let http = entrances.http.map(HttpPlace::entrance);
             let server = Server {
                 rt,
                 alloc: host.alloc(),
-                listener,
-                overseers,
+                listener: entrances.clients,
+                overseers: entrances.overseers,
+                http: http.as_ref(),
                 fetcher: &fetcher,
                 clock: &clock_of(rt, host, &begun.book),
                 alarm: &FullLog { rt: host },
@@ -292,13 +345,22 @@ fn run_and_tell<
 ) -> Ending
     requires { IsCrew server.now.workers }
 {
-    match tell_places(host, options, server.listener, server.overseers) {
+    warn_of_usual_end(host, options.connections);
+    match tell_places(host, options, server) {
         Ending::Done => {
             let Past { receipts, sites } = past;
             let end = server.run(gate, receipts, sites.as_slice(), journal);
             ending(host, end)
         }
         ending => ending,
+    }
+}
+
+// Says when the server ends, if that is after the usual number of connections.
+fn warn_of_usual_end(host: &HostRuntime, connections: Connections) {
+    match connections {
+        Connections::AtMost(count) if count == MAX_CONNECTIONS => tell_usual_end(host, count),
+        Connections::AtMost(_) | Connections::Endless => {}
     }
 }
 

@@ -12,11 +12,11 @@ use Rattle.std.specs.declared.net.socket_addr.SocketAddr.{SocketAddr}
 use Rattle.http_client.specs.declared.address_block.AddressBlock.{AddressBlock}
 use Rattle.http_client.specs.declared.reach.Reach.{Reach}
 use Rattle.http_client.specs.declared.time_limits.TimeLimits.{TimeLimits}
-use Rattle.fetchers.specs.Limits.{no_bound, page_limit}
+use Rattle.fetchers.specs.Limits.{full_closure, no_bound, page_limit}
 
 -- a fetcher: its agent for robots.txt files, the comment after agents of pages, if any, its time limits, its reach, the
--- blocks that it doesn't connect to, the schemes of its pages, the most octets of a page's body, and those of the
--- robots texts that it keeps
+-- blocks that it doesn't connect to, the schemes of its pages, the most octets of a page's body, those of the robots
+-- texts that it keeps, and for how many seconds a network fault keeps a site closed
 pub record TcpView : Type 0 where
   pub agent : List ℕ
   pub contact : Option (List ℕ)
@@ -26,6 +26,7 @@ pub record TcpView : Type 0 where
   pub schemes : Schemes
   pub page_limit : ℕ
   pub texts : ℕ
+  pub closed_for : ℕ
 
 -- an agent and its comment, if any. RFC 9110, sections 5.6.5 and 10.1.5
 abbrev pub agent_with : List ℕ → Option (List ℕ) → List ℕ
@@ -46,7 +47,8 @@ abbrev pub schemes_by : Option SocketAddr → Schemes
 schemes_by None = Http
 schemes_by (Some program) = HttpAndHttps
 
--- a new fetcher: no comment, no block avoided, the usual limit of pages, and no bound of robots texts
+-- a new fetcher: no comment, no block avoided, the usual limit of pages, no bound of robots texts, and closed sites as
+-- long as their answers live
 abbrev pub IsFetcherOf : List ℕ → TimeLimits → Reach → Schemes → TcpView → Type 0
 IsFetcherOf agent limits reach schemes fetcher =
     fetcher ≡ record {
@@ -58,6 +60,7 @@ IsFetcherOf agent limits reach schemes fetcher =
       schemes = schemes;
       page_limit = page_limit;
       texts = no_bound;
+      closed_for = full_closure;
     }
 
 -- some octets as a response within the limit, for any URL

@@ -4,6 +4,7 @@ ghost use Rattle.fetchers.specs.Leaves.{page_of, robots_page_of, token_of_leave}
 ghost use Rattle.fetchers.specs.Limits.{robots_limit};
 ghost use Rattle.fetchers.specs.Walks.{IsOnWalk};
 
+use crate::fetch_meter::FetchMeter;
 use gate_lock::{Fetched, Gate, RobotsTurn, Running};
 use http_client::Failure;
 use http_wire::{ForwardedFields, HttpReply, WireFault};
@@ -68,8 +69,8 @@ pub trait Fetcher {
     ghost use Rattle.fetchers.specs.Giving.{Giving};
     ghost use Rattle.path_normal.specs.declared.schemes.Schemes.{Schemes};
 
-    /// The most octets of a page's body, and what holds of the limit of a body, a URL, and each result of
-    /// such a fetch.
+    /// The most octets of a page's body, for how many seconds a network fault keeps a site closed, and what
+    /// holds of the limit of a body, a URL, and each result of such a fetch.
     ghost gives: { Self → Giving };
 
     /// The schemes of the pages that it fetches.
@@ -83,6 +84,12 @@ pub trait Fetcher {
     /// The most octets of a page's body that it gives.
     fn page_limit(&self) -> usize
         ensures { result ≡ (gives self.now).page_limit };
+
+    /// For how many seconds a site stays closed whose robots.txt could not be fetched for a network fault,
+    /// from the begin of that turn on: a page of it that is wanted later has the file fetched anew. With more
+    /// than 86,400 that is never sooner than the answer's life ends.
+    fn closed_for(&self) -> u64
+        ensures { result ≡ (gives self.now).closed_for };
 
     /// The shared time limit of one robots.txt walk, from now on; none without a limit or clock.
     fn begin_walk(&self) -> Option<Deadline> {
@@ -100,6 +107,11 @@ pub trait Fetcher {
 
     /// Tells it how many octets of robots texts are kept now. It counts on from there.
     fn counts_texts(&self, _octets: u64) {}
+
+    /// What counts the fetches that failed, if anything does.
+    fn meter(&self) -> Option<&FetchMeter> {
+        None
+    }
 
     /// Fetches a page with these fields of a client's request, and with at most `limit` octets of its body.
     fn load_page(

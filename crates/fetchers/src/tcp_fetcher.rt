@@ -9,8 +9,10 @@ ghost use Rattle.http_client.specs.declared.reach.Reach.TheVariants.{Anywhere};
 ghost use Rattle.fetchers.specs.Limits.{robots_limit};
 ghost use Rattle.fetchers.specs.Network.{IsFetcherOf, agent_with, schemes_by};
 
+use crate::fetch_meter::FetchMeter;
 use crate::fetcher::{Fetcher, PageLeave, RobotsLeave};
 use crate::text_room::TextRoom;
+use authority_cache::LIFE;
 use http_client::{AddressBlock, Failure, PageRequest, Reach, TcpClient, TimeLimits};
 use http_wire::{ForwardedFields, HttpReply, WireFault};
 use path_normal::Schemes;
@@ -24,14 +26,18 @@ use stream_waits::Deadline;
 /// The most octets of a page's body where no other limit is set.
 pub const PAGE_LIMIT: usize = 1_048_576;
 
+/// For how many seconds a network fault keeps a site closed where no other time is set: an answer of that age
+/// is past its life.
+pub const FULL_CLOSURE: u64 = LIFE + 1;
+
 /// The most octets of a robots.txt: those kept, and one that shows that there are more.
 const ROBOTS_LIMIT: usize = MAX_TEXT + 1;
 
 /// Fetches pages under crawlers' tokens, and robots.txt files under its own agent.
 ///
 /// A clause sees it as that agent (the value of User-Agent), the comment after a crawler's token, its time
-/// limits, its reach, the blocks that it avoids, the schemes of its pages, the most octets of a page's body,
-/// and those of robots texts.
+/// limits, its reach, the blocks that it avoids, the schemes of its pages, the most octets of a page's body
+/// and of robots texts, and for how many seconds a network fault keeps a site closed.
 #[derive(Drop)]
 pub struct TcpFetcher<R: Net<Stream = TcpStream> + time::Clock> {
     client: TcpClient<R>,
@@ -41,6 +47,8 @@ pub struct TcpFetcher<R: Net<Stream = TcpStream> + time::Clock> {
     schemes: Schemes,
     page_limit: usize,
     texts: TextRoom,
+    closed_for: u64,
+    meter: FetchMeter,
 }
 
 impl<R: Net<Stream = TcpStream> + time::Clock> Model for TcpFetcher<R> {
@@ -59,6 +67,7 @@ impl<R: Net<Stream = TcpStream> + time::Clock> Model for TcpFetcher<R> {
       schemes = fetcher.schemes;
       page_limit = fetcher.page_limit;
       texts = fetcher.texts;
+      closed_for = fetcher.closed_for;
     } };
 
     ghost invariant = { λ fetcher. IsAgent (string_bytes fetcher.agent)
@@ -116,6 +125,8 @@ impl<R: Net<Stream = TcpStream> + time::Clock> TcpFetcher<R> {
             schemes: schemes_by(tls_by),
             page_limit: PAGE_LIMIT,
             texts: TextRoom::new(),
+            closed_for: FULL_CLOSURE,
+            meter: FetchMeter::new(),
         })
     }
 
@@ -131,23 +142,10 @@ impl<R: Net<Stream = TcpStream> + time::Clock> TcpFetcher<R> {
     {
         let whole = with_comment(self.alloc, self.agent.as_str(), contact)?;
         let contact = String::from_str(self.alloc, contact)?;
-        let TcpFetcher {
-            client,
-            alloc,
-            agent: _,
-            contact: _,
-            schemes,
-            page_limit,
-            texts,
-        } = self;
         Ok(TcpFetcher {
-            client,
-            alloc,
             agent: whole,
             contact: Some(contact),
-            schemes,
-            page_limit,
-            texts,
+            ..self
         })
     }
 
@@ -158,23 +156,9 @@ impl<R: Net<Stream = TcpStream> + time::Clock> TcpFetcher<R> {
         R: Drop,
         ensures { result ≡ record self { not_to = not_to.items } }
     {
-        let TcpFetcher {
-            client,
-            alloc,
-            agent,
-            contact,
-            schemes,
-            page_limit,
-            texts,
-        } = self;
         TcpFetcher {
-            client: client.avoiding(not_to),
-            alloc,
-            agent,
-            contact,
-            schemes,
-            page_limit,
-            texts,
+            client: self.client.avoiding(not_to),
+            ..self
         }
     }
 
@@ -184,23 +168,9 @@ impl<R: Net<Stream = TcpStream> + time::Clock> TcpFetcher<R> {
         R: Drop,
         ensures { result ≡ record self { page_limit = most } }
     {
-        let TcpFetcher {
-            client,
-            alloc,
-            agent,
-            contact,
-            schemes,
-            page_limit: _,
-            texts,
-        } = self;
         TcpFetcher {
-            client,
-            alloc,
-            agent,
-            contact,
-            schemes,
             page_limit: most,
-            texts,
+            ..self
         }
     }
 
@@ -210,24 +180,19 @@ impl<R: Net<Stream = TcpStream> + time::Clock> TcpFetcher<R> {
         R: Drop,
         ensures { result ≡ record self { texts = most } }
     {
-        let TcpFetcher {
-            client,
-            alloc,
-            agent,
-            contact,
-            schemes,
-            page_limit,
-            texts: _,
-        } = self;
         TcpFetcher {
-            client,
-            alloc,
-            agent,
-            contact,
-            schemes,
-            page_limit,
             texts: TextRoom::of(most),
+            ..self
         }
+    }
+
+    /// This fetcher, for which a network fault keeps a site closed for so many seconds.
+    pub fn retrying_closed(self, closed_for: u64) -> TcpFetcher<R>
+    where
+        R: Drop,
+        ensures { result ≡ record self { closed_for = closed_for } }
+    {
+        TcpFetcher { closed_for, ..self }
     }
 
     // Fetches a page under a crawler's agent, with the contact after it.
@@ -259,7 +224,11 @@ impl<R: Net<Stream = TcpStream> + time::Clock> TcpFetcher<R> {
 impl<R: Net<Stream = TcpStream> + time::Clock> Fetcher for TcpFetcher<R> {
     ghost use Rattle.fetchers.specs.Network.{GivesAny};
 
-    ghost gives = { λ fetcher. record { page_limit = fetcher.page_limit; holds = GivesAny } };
+    ghost gives = { λ fetcher. record {
+      page_limit = fetcher.page_limit;
+      closed_for = fetcher.closed_for;
+      holds = GivesAny;
+    } };
 
     ghost follows = { λ fetcher. fetcher.schemes };
 
@@ -269,6 +238,10 @@ impl<R: Net<Stream = TcpStream> + time::Clock> Fetcher for TcpFetcher<R> {
 
     fn page_limit(&self) -> usize {
         self.page_limit
+    }
+
+    fn closed_for(&self) -> u64 {
+        self.closed_for
     }
 
     /// All fetches of a walk take no longer than one may.
@@ -288,6 +261,10 @@ impl<R: Net<Stream = TcpStream> + time::Clock> Fetcher for TcpFetcher<R> {
 
     fn counts_texts(&self, octets: u64) {
         self.texts.count_from(octets);
+    }
+
+    fn meter(&self) -> Option<&FetchMeter> {
+        Some(&self.meter)
     }
 
     fn load_page(
@@ -319,6 +296,7 @@ impl<R: Net<Stream = TcpStream> + time::Clock> Fetcher for TcpFetcher<R> {
         ensures { Tells None robots_limit result }
     {
         let Some(deadline) = time else {
+            self.meter.note_robots(&Err(WireFault::Device));
             leave.spend();
             return Err(WireFault::Device);
         };
@@ -330,6 +308,7 @@ impl<R: Net<Stream = TcpStream> + time::Clock> Fetcher for TcpFetcher<R> {
             limit: ROBOTS_LIMIT,
         };
         let given = self.client.fetch_by(self.alloc, &page, deadline, failure);
+        self.meter.note_robots(&given);
         leave.spend();
         given
     }

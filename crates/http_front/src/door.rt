@@ -1,5 +1,6 @@
 //! The door to sites: whether a page of a site may be visited now, and what a visit came to.
 //! RFC 9110, section 10.2.3: a site may say when to ask again.
+use http_turns::Asker;
 use http_wire::HttpReply;
 use path_normal::Authority;
 
@@ -17,8 +18,8 @@ pub trait SiteDoor {
     /// Relates a door and a visit that was let in to the response that it was left with.
     ghost leaves: { Self → Self.Pass → Option HttpReply → Type 0 };
 
-    /// Lets a visit to a site in, or not now.
-    fn enter(&self, site: &Authority) -> Option<Self::Pass>
+    /// Lets a visit to a site in, or not now. Who has waited longer may be let in first.
+    fn enter(&self, site: &Authority, asker: Asker) -> Option<Self::Pass>
         ensures { answers self.now site.now result };
 
     /// Ends a visit that was let in, with the site's response if there was one.
@@ -36,7 +37,7 @@ impl SiteDoor for () {
 
     ghost leaves = { λ _ _ _. Unit {0} };
 
-    fn enter(&self, _site: &Authority) -> Option<()> {
+    fn enter(&self, _site: &Authority, _asker: Asker) -> Option<()> {
         Some(())
     }
 

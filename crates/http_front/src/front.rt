@@ -17,6 +17,7 @@ use command_server::{FetchClock, NumberedClock, next_reading};
 use crawl_job::Job;
 use http::Request;
 use http_server::{Config, Response, Service};
+use http_turns::Asker;
 use http_wire::ForwardedFields;
 use http1::Limits;
 use keepers::Keeper;
@@ -50,6 +51,8 @@ pub struct Front<'f, K: Keeper, D: SiteDoor, C: NumberedClock, M: Metrics> {
     pub metrics: &'f M,
     /// What of a request goes to the site.
     pub forwarding: Forwarding,
+    /// Whose request the next one is.
+    pub asker: Asker,
     /// The number of the next visit's readings. Begin with 0.
     pub number: u64,
     /// Whether the last request was not begun: it left nothing, and may be sent again when its time has come.
@@ -65,7 +68,7 @@ impl<'f, K: Keeper, D: SiteDoor, C: NumberedClock, M: Metrics> Service for Front
 
     ghost answers = { λ old request response new.
         ((new.keeper.ghost_name ≡ old.keeper.ghost_name) × (new.door ≡ old.door) × (new.clock ≡ old.clock)
-        × (new.metrics ≡ old.metrics) × (new.forwarding ≡ old.forwarding) × (new.number ≡ next_reading old.number))
+        × (new.metrics ≡ old.metrics) × (new.forwarding ≡ old.forwarding) × (new.asker ≡ old.asker) × (new.number ≡ next_reading old.number))
         × AnswersRequest K.deals (D.answers old.door.now) (D.leaves old.door.now)
         (C.reads old.clock.now) (M.tells old.metrics.now) old.number
         old.keeper.now request response new.later new.keeper.now };
@@ -83,10 +86,29 @@ impl<'f, K: Keeper, D: SiteDoor, C: NumberedClock, M: Metrics> Service for Front
         };
         self.number = next_reading(self.number);
         let fields = self.forwarding.fields_of(request);
-        let told = told_of(self.alloc, self.keeper, self.door, &clock, request, &fields);
+        let asker = self.asker;
+        let told = told_of(
+            self.alloc,
+            self.keeper,
+            self.door,
+            &clock,
+            request,
+            &fields,
+            asker,
+        );
         self.later = told.is_later();
+        note(self.metrics, &told);
         self.octets = answer(self.alloc, schemes, self.metrics, told, response);
         Ok(())
+    }
+}
+
+// Has a denial or a failed fetch counted.
+fn note<M: Metrics>(metrics: &M, told: &Told) {
+    match told {
+        Told::Own(OwnAnswer::Denied(denial)) => metrics.note_denial(denial.cause),
+        Told::Own(OwnAnswer::Failed(..)) => metrics.note_failed_page(),
+        Told::Own(_) | Told::Page(..) | Told::Metrics(_) => {}
     }
 }
 
@@ -97,13 +119,14 @@ fn told_of<K: Keeper, D: SiteDoor, C: NumberedClock>(
     clock: &FetchClock<'_, C>,
     request: &Request<Bytes>,
     fields: &ForwardedFields<'_>,
+    asker: Asker,
 ) -> Told
     ensures { DoesRequest K.deals (D.answers door.now) (D.leaves door.now)
         (C.reads clock.now.clock.now clock.now.number) keeper.old
         (head_of request.now) result keeper.new }
 {
     match read_request(alloc, keeper.schemes(), request) {
-        Ok(Wish::Page(asked)) => visit_asked(alloc, keeper, door, clock, asked, fields),
+        Ok(Wish::Page(asked)) => visit_asked(alloc, keeper, door, clock, asked, fields, asker),
         Ok(Wish::Metrics) => Told::Metrics(keeper.counts()),
         Err(why) => Told::Own(OwnAnswer::Misasked(why)),
     }
@@ -117,6 +140,7 @@ fn visit_asked<K: Keeper, D: SiteDoor, C: NumberedClock>(
     clock: &FetchClock<'_, C>,
     asked: PageWish,
     fields: &ForwardedFields<'_>,
+    asker: Asker,
 ) -> Told
     ensures { DoesPage K.deals (D.answers door.now) (D.leaves door.now)
         (C.reads clock.now.clock.now clock.now.number) keeper.old asked result keeper.new }
@@ -124,7 +148,7 @@ fn visit_asked<K: Keeper, D: SiteDoor, C: NumberedClock>(
     let (Ok(job), Ok(site)) = (job_of(&asked), Authority::of(&asked.url)) else {
         return Told::Own(OwnAnswer::Misasked(Misasked::NoMemory));
     };
-    match door.enter(&site) {
+    match door.enter(&site, asker) {
         Some(pass) => {
             let visit = visit_let_in(alloc, keeper, door, clock, job, fields, pass);
             told_visit(asked, visit)

@@ -11,6 +11,6 @@ mod talk;
 mod worker;
 
 pub use budget::{AnswerBudget, MOST_ANSWER_OCTETS};
-pub use deferring::DeferringService;
+pub use deferring::{Asker, DeferringService};
 pub use talk::{HttpTalk, LATER_MILLISECONDS, MESSAGE_MILLISECONDS};
 pub use worker::HttpWorker;

@@ -4,7 +4,7 @@ ghost use Rattle.std.specs.Prelude.{◌≡◌, [], length};
 ghost use Rattle.http_server.specs.Connection.{history};
 
 use crate::budget::AnswerBudget;
-use crate::deferring::DeferringService;
+use crate::deferring::{Asker, DeferringService};
 use crate::worker::HttpWorker;
 use http_server::{Config, Connection, State};
 use journal::CatchesUp;
@@ -46,6 +46,8 @@ pub struct HttpTalk {
     heard: Vec<u8>,
     stage: Stage,
     until: Moment,
+    // Where its client is.
+    place: usize,
     // How many octets of its answer the budget counts.
     counted: u64,
 }
@@ -58,6 +60,7 @@ impl HttpTalk {
             heard: Vec::new(alloc),
             stage: Stage::Over,
             until: Moment::NEVER,
+            place: 0,
             counted: 0,
         }
     }
@@ -69,6 +72,14 @@ impl HttpTalk {
         budget.take(octets);
         budget.give(self.counted);
         self.counted = octets;
+    }
+
+    // Until when the request waits if it comes too early.
+    fn wait_until(&self, now: Moment) -> Moment {
+        match self.stage {
+            Stage::DueAgain(until) => until,
+            _ => now.after(LATER_MILLISECONDS),
+        }
     }
 
     // What comes after a step of the connection in which no request was answered.
@@ -166,7 +177,8 @@ impl<'w, S: DeferringService, A: CatchesUp> Conversation<HttpWorker<'w, S, A>> f
 
     ghost pending = { λ talk. (history talk.connection).pending };
 
-    fn begin(&mut self, worker: &mut HttpWorker<'w, S, A>, _place: usize, now: Moment) {
+    fn begin(&mut self, worker: &mut HttpWorker<'w, S, A>, place: usize, now: Moment) {
+        self.place = place;
         self.heard.clear();
         self.renew(worker.alloc, worker.keys, worker.config, Stage::Idle);
         self.until = now.after(worker.patience);
@@ -222,23 +234,22 @@ impl<'w, S: DeferringService, A: CatchesUp> Conversation<HttpWorker<'w, S, A>> f
         if self.connection.wants_write() {
             return;
         }
+        let until = self.wait_until(now);
+        worker.service.set_asker(Asker {
+            place: self.place,
+            until,
+        });
         let number = worker.service.number();
         self.connection.advance(&mut worker.service);
         let is_answered = worker.service.number() != number;
-        if is_answered && worker.service.is_deferred() {
-            let until = match self.stage {
-                Stage::DueAgain(until) => until,
-                _ => now.after(LATER_MILLISECONDS),
-            };
-            if !until.is_over(now) {
-                self.renew(
-                    worker.alloc,
-                    worker.keys,
-                    worker.config,
-                    Stage::Deferred(until),
-                );
-                return;
-            }
+        if is_answered && worker.service.is_deferred() && !until.is_over(now) {
+            self.renew(
+                worker.alloc,
+                worker.keys,
+                worker.config,
+                Stage::Deferred(until),
+            );
+            return;
         }
         self.stage = if worker.ahead.catch_up(number).is_err() {
             Stage::Over

@@ -1,6 +1,8 @@
 -- The definitions for contracts, one concept a file.
 -- `crates/journal/src` has the code.
 pub mod Crash
+pub mod Cutting
+pub mod FolderNames
 pub mod Heads
 pub mod Joining
 pub mod Journal

@@ -2,13 +2,15 @@
 //! docs/FAULTS.md has the messages.
 use std::alloc::AllocError;
 use std::io;
+use std::io::ErrorKind;
 
 /// Why a journal has failed, for good: nothing more is written to it, or may be sent.
 #[derive(Clone, Copy, Debug)]
 pub enum JournalFault {
     /// A write or sync failed, or a file could not be created, for this reason if known.
     Device(Option<io::Error>),
-    /// The disk, or what the owner may have of it, has no room for these octets of the next file.
+    /// The disk, or what the owner may have of it, has no room for these octets: of the next file, or of what
+    /// ends the last one.
     NoRoom(u64),
     /// No memory for a file's name, or for what is allocated at the start.
     NoMemory,
@@ -29,11 +31,20 @@ impl From<AllocError> for JournalFault {
     }
 }
 
+/// The fault of so many octets that can't be written to a file.
+pub(crate) fn fault_of(cause: io::Error, octets: u64) -> JournalFault {
+    match cause.kind() {
+        ErrorKind::StorageFull | ErrorKind::QuotaExceeded => JournalFault::NoRoom(octets),
+        ErrorKind::OutOfMemory => JournalFault::NoMemory,
+        _ => JournalFault::Device(Some(cause)),
+    }
+}
+
 /// Why a folder can't be used for a journal.
 #[derive(Debug, Drop)]
 pub enum FolderFault {
-    /// It has files with other names than a journal's.
-    OtherFiles,
+    /// What has this path in it is named as a journal's file is, with something after the twenty digits.
+    Altered(String),
     /// What has this path in it, which is a name of a journal's, is no regular file: a link, a pipe, a folder.
     NotRegular(String),
     /// Another process has it.

@@ -1,14 +1,14 @@
 //! A tape over a system file.
 //! A journal's file is written and synced only through it.
 ghost use Rattle.std.specs.Prelude.{◌≡◌, None};
-ghost use Rattle.counted_io.specs.Device.{one_more};
+ghost use Rattle.counted_io.specs.Device.{failures_after, one_more};
 ghost use Rattle.journal.specs.Parts.{file_failures};
 
 use crate::tape::Tape;
 use counted_io::DeviceFault;
-use std::fs::OpenFile;
+use std::fs::{File, OpenFile};
 use std::io;
-use std::io::{ErrorKind, Write};
+use std::io::{ErrorKind, Seek, SeekFrom, Write};
 
 /// A file opened for appending. A contract does not know its contents: the system promises that written
 /// octets outlive the process, and synced ones the machine.
@@ -37,6 +37,22 @@ impl<F: Write + OpenFile> FileTape<F> {
         self.failures = self.failures.wrapping_add(1);
         self.cause = Some(cause);
         DeviceFault
+    }
+}
+
+impl FileTape<File> {
+    /// Leaves the first octets, and appends after them from now on.
+    pub(crate) fn set_end(&mut self, size: u64) -> Result<(), DeviceFault>
+        ensures { file_failures self.new ≡ failures_after (file_failures self.old) result }
+    {
+        let cut = match self.file.set_len(size) {
+            Ok(()) => self.file.seek(SeekFrom::Start(size)),
+            Err(cause) => Err(cause),
+        };
+        match cut {
+            Ok(_) => Ok(()),
+            Err(cause) => Err(self.fault(cause)),
+        }
     }
 }
 

@@ -4,6 +4,7 @@ ghost use Rattle.std.specs.Prelude.{◌≡◌, IfOk};
 
 use crate::chronicle::Chronicle;
 use crate::fault::JournalFault;
+use crate::meter::JournalMeter;
 use crate::policy::SyncPolicy;
 use crate::shelf::Shelf;
 use crate::writer::Writer;
@@ -11,7 +12,7 @@ use counted_io::DeviceFault;
 use std::alloc::Global;
 use std::marker::Model;
 use std::sync::atomic::{AtomicBool, Ordering};
-use std::sync::{Condvar, Mutex, Wait};
+use std::sync::{Arc, Condvar, Mutex, Wait};
 
 // What threads share: the journal's writer, unless a thread has it; how many entries may be sent; and its
 // fault, if any.
@@ -49,6 +50,8 @@ pub struct GroupJournal<S: Shelf> {
     policy: SyncPolicy,
     // Whether the files have as many octets as they may.
     is_full: AtomicBool,
+    // What counts what is written to the files, if anything does.
+    meter: Option<Arc<JournalMeter>>,
 }
 
 impl<S: Shelf> Model for GroupJournal<S> {
@@ -82,6 +85,7 @@ impl<S: Shelf + Drop> GroupJournal<S> {
     ) -> Result<GroupJournal<S>, JournalFault>
         ensures { IfOk result (λ journal. journal ≡ policy) }
     {
+        let meter = shelf.meter()?;
         let writer = Writer::new(alloc, chronicle, shelf, limit)?;
         Ok(GroupJournal {
             is_full: AtomicBool::new(!writer.has_room()),
@@ -92,6 +96,7 @@ impl<S: Shelf + Drop> GroupJournal<S> {
             }),
             moved: Condvar::new(),
             policy,
+            meter,
         })
     }
 
@@ -100,6 +105,14 @@ impl<S: Shelf + Drop> GroupJournal<S> {
     /// lead past the limit by what several threads enter at once.
     pub fn has_room(&self) -> bool {
         !self.is_full.load(Ordering::SeqCst)
+    }
+
+    /// What counts what is written to its files, if anything does.
+    pub fn meter(&self) -> Option<&JournalMeter> {
+        match &self.meter {
+            Some(meter) => Some(&**meter),
+            None => None,
+        }
     }
 
     /// Its fault, if it has failed: failures are final.

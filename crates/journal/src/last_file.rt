@@ -1,16 +1,16 @@
 //! The last file of a journal that an earlier process wrote, and the one before it, from which it goes on.
 //! What was open at its end is ended in it before a new file begins, so `cat FOLDER/*` stays one history.
 
-use crate::fault::{FolderFault, JournalFault};
+use crate::cutting::{TextEnd, end_text};
+use crate::fault::{FolderFault, JournalFault, fault_of};
 use crate::file_tape::FileTape;
 use crate::joined::{Joined, JoinedLine};
 use crate::names::{file_digits, head_of, line_unlike};
 use crate::regular::open_regular;
-use crate::writing::keep;
+use crate::writing::cause_of;
 use std::alloc::Global;
 use std::fs::{File, Files};
 use std::io;
-use std::io::{Seek, SeekFrom};
 use std::os::unix::fs::FileExt;
 
 // More octets than the longest head has.
@@ -130,19 +130,15 @@ impl LastFile {
         }
     }
 
-    /// Cuts the last file after this many octets, appends these, and waits until a crash keeps both.
+    /// Cuts the last file after this many octets, appends these, and waits until a crash keeps both. If that
+    /// fails, as on a full disk, the file is cut there again, so that it ends with the line before them.
     pub fn end(self, whole: u64, ending: &[u8]) -> Result<(), JournalFault> {
-        match end_file(self.last.file, whole, ending) {
-            Ok(()) => Ok(()),
-            Err(cause) => Err(JournalFault::Device(Some(cause))),
+        let mut tape = FileTape::new(self.last.file);
+        match end_text(&mut tape, whole, ending) {
+            TextEnd::Appended => Ok(()),
+            TextEnd::Uncut | TextEnd::Undone | TextEnd::Torn => {
+                Err(fault_of(cause_of(&tape), ending.len() as u64))
+            }
         }
     }
-}
-
-fn end_file(file: File, whole: u64, ending: &[u8]) -> io::Result<()> {
-    let mut file = file;
-    file.set_len(whole)?;
-    file.seek(SeekFrom::Start(whole))?;
-    keep(FileTape::new(file), ending)?;
-    Ok(())
 }

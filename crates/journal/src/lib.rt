@@ -4,16 +4,20 @@
 #![tactic(auto)]
 
 mod chronicle;
+mod cutting;
 mod fault;
 mod file_tape;
 mod files_room;
 mod folder;
+mod folder_names;
 mod group;
 mod joined;
 mod journal;
 mod journaled_sink;
 mod last_file;
 mod memory_tape;
+mod meter;
+mod metered_tape;
 mod names;
 mod policy;
 mod position;
@@ -35,6 +39,8 @@ pub use crate::journal::Journal;
 pub use crate::journaled_sink::{CatchesUp, JournaledSink};
 pub use crate::last_file::{FileLine, LastFile};
 pub use crate::memory_tape::MemoryTape;
+pub use crate::meter::{JournalCounts, JournalMeter};
+pub use crate::metered_tape::MeteredTape;
 pub use crate::names::file_name;
 pub use crate::policy::SyncPolicy;
 pub use crate::position::JournalPosition;

@@ -11,8 +11,8 @@ pub(crate) const NEW_NAME: &str = ".new";
 /// The name of the file whose lock protects the folder.
 pub(crate) const LOCK_NAME: &str = ".lock";
 
-// The digits of a name.
-const DIGITS: usize = 20;
+/// The digits of a file's name.
+pub(crate) const NAME_DIGITS: usize = 20;
 
 // The first line of a text without a base, and of one with a base.
 const FIRST: &str = "V 2\n";
@@ -22,11 +22,6 @@ const FURTHER: &str = "V 3\n";
 /// The name of the file after this many entries.
 pub fn file_name(alloc: Global, entries: u64) -> Result<String, AllocError> {
     format!(in alloc; "{entries:020}")
-}
-
-/// Whether a name is a journal file's. Later files have greater names.
-pub(crate) fn is_file_name(name: &str) -> bool {
-    name.len() == DIGITS && name.bytes().all(|octet| octet.is_ascii_digit())
 }
 
 /// The path of a file in a folder.

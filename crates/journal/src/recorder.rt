@@ -5,6 +5,7 @@ ghost use Rattle.std.specs.Prelude.{⊤};
 use crate::chronicle::{Chronicle, Sealer};
 use crate::group::GroupJournal;
 use crate::journaled_sink::CatchesUp;
+use crate::meter::JournalMeter;
 use crate::shelf::Shelf;
 use counted_io::DeviceFault;
 use std::sync::Wait;
@@ -32,6 +33,11 @@ pub trait Recorder {
     /// Records all, and syncs it if the policy is `Second`. Fails if the place of the records is no longer
     /// there. To be called once a second.
     fn see_to<H: Chronicle, R: Wait>(&self, rt: &R, chronicle: &H) -> Result<(), DeviceFault>;
+
+    /// What counts what it writes, if anything does.
+    fn meter(&self) -> Option<&JournalMeter> {
+        None
+    }
 }
 
 /// Records nothing: all may be sent at once.
@@ -90,6 +96,10 @@ impl<S: Shelf + Drop> Recorder for GroupJournal<S> {
     fn see_to<H: Chronicle, R: Wait>(&self, rt: &R, chronicle: &H) -> Result<(), DeviceFault> {
         GroupJournal::catch_up(self, rt, chronicle)?;
         self.tend(rt)
+    }
+
+    fn meter(&self) -> Option<&JournalMeter> {
+        GroupJournal::meter(self)
     }
 }
 

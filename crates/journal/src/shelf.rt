@@ -5,9 +5,12 @@ ghost use Rattle.journal.specs.Shelves.{IsBegun};
 
 use crate::chronicle::Chronicle;
 use crate::fault::JournalFault;
+use crate::meter::JournalMeter;
 use crate::position::JournalPosition;
 use crate::tape::Tape;
 use counted_io::Output;
+use std::alloc::AllocError;
+use std::sync::Arc;
 
 /// A new file: what it is written to, the end of the text that begins it, and the octets of that.
 #[derive(Drop)]
@@ -40,4 +43,9 @@ pub trait Shelf {
 
     /// How many octets its files have, those of earlier processes too. It asks for each file.
     fn octets(&self) -> Result<u64, JournalFault>;
+
+    /// What counts the octets and syncs of its files, if anything does.
+    fn meter(&self) -> Result<Option<Arc<JournalMeter>>, AllocError> {
+        Ok(None)
+    }
 }

@@ -1,5 +1,5 @@
 //! Octets written so that a crash keeps them.
-//! Used to begin a journal's files, and to end an earlier process's last one.
+//! Used to begin a journal's files.
 ghost use Rattle.std.specs.Prelude.{None};
 
 use crate::file_tape::FileTape;
@@ -8,15 +8,6 @@ use counted_io::{DeviceFault, Sink};
 use std::fs::File;
 use std::io;
 use std::io::ErrorKind;
-
-/// Writes a text, and waits until a crash keeps it.
-pub(crate) fn keep(tape: FileTape<File>, text: &[u8]) -> io::Result<FileTape<File>> {
-    let mut tape = tape;
-    match append_all(&mut tape, text) {
-        Ok(()) => synced(tape),
-        Err(DeviceFault) => Err(cause_of(&tape)),
-    }
-}
 
 /// A new file while the text that begins it is written. Past a fault it only counts, so that who is told of
 /// the fault learns how many octets the file needs.
@@ -77,7 +68,8 @@ fn synced(tape: FileTape<File>) -> io::Result<FileTape<File>> {
     }
 }
 
-fn cause_of(tape: &FileTape<File>) -> io::Error {
+/// Why a call of a tape failed.
+pub(crate) fn cause_of(tape: &FileTape<File>) -> io::Error {
     match tape.cause() {
         Some(cause) => cause,
         None => io::Error::from(ErrorKind::Other),

@@ -28,6 +28,7 @@ impl<'a, A: CatchesUp, F: Fetcher> Fetcher for JournaledFetcher<'a, A, F> {
 
     ghost gives = { λ behind. record {
       page_limit = (F.gives behind.fetcher.now).page_limit;
+      closed_for = (F.gives behind.fetcher.now).closed_for;
       holds = λ limit url reply.
           GivesBehind (A.comes behind.ahead 0) ((F.gives behind.fetcher.now).holds limit url) reply;
     } };
@@ -40,6 +41,10 @@ impl<'a, A: CatchesUp, F: Fetcher> Fetcher for JournaledFetcher<'a, A, F> {
 
     fn page_limit(&self) -> usize {
         self.fetcher.page_limit()
+    }
+
+    fn closed_for(&self) -> u64 {
+        self.fetcher.closed_for()
     }
 
     fn begin_walk(&self) -> Option<Deadline> {

@@ -1,4 +1,5 @@
 -- What contracts say of a server.
 pub mod Faults
+pub mod HttpMetrics
 pub mod Sweeping
 pub mod Servers

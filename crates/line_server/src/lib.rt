@@ -4,14 +4,18 @@
 
 mod clerk;
 mod fault;
+mod http_metrics;
+mod http_serving;
 mod numbers;
 mod overseeing;
 mod recorded;
 mod refetching;
 mod servant;
 mod server;
+mod site_doors;
 mod warden;
 
 pub use fault::ServeFault;
+pub use http_serving::HttpEntrance;
 pub use server::{Served, Server};
 pub use warden::Alarm;

@@ -120,7 +120,7 @@ impl<F: Fetcher, C: NumberedClock, A: Alarm, R: Wait + time::Clock> Server<'_, F
             keeper,
             self.clock,
             first,
-            &recorded.visits,
+            &recorded.counters,
         );
     }
 

@@ -1,19 +1,19 @@
 //! A gate with its journal: no reply and no fetch goes past what is recorded.
 //! Without a journal nothing has to be recorded first.
-use command_server::Visits;
+use command_server::ServerCounters;
 use gate_journal::Recording;
 use gate_lock::{Gate, GateLock};
 use journal::{CaughtUp, Recorder};
 use journal_keepers::{JournalRecords, JournaledFetcher};
 use std::sync::Wait;
 
-/// A gate, its journal, and the clients of its server.
+/// A gate, its journal, and what its server counts.
 #[derive(Drop)]
 pub(crate) struct Recorded<'a, G: Gate, J: Recorder, R: Wait> {
     pub(crate) gate: &'a GateLock<G>,
     pub(crate) chronicle: Recording<'a, G, R>,
     pub(crate) journal: &'a J,
-    pub(crate) visits: Visits,
+    pub(crate) counters: ServerCounters<'a>,
 }
 
 impl<'a, G: Gate, J: Recorder, R: Wait> Recorded<'a, G, J, R> {

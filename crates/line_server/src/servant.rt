@@ -88,9 +88,9 @@ impl<F: Fetcher, C: NumberedClock, A: Alarm, R: Wait + time::Clock> Server<'_, F
         for _ in 0..share_of(self.connections) {
             let stream = self.accept()?;
             *taken = taken.saturating_add(1);
-            recorded.visits.enter();
+            recorded.counters.enter();
             self.serve_client(recorded, stream, keeper);
-            recorded.visits.leave();
+            recorded.counters.leave();
             // If what the client left can't be recorded, no other is served.
             recorded.journal.catch_up(self.rt, &recorded.chronicle)?;
         }
@@ -150,7 +150,7 @@ impl<F: Fetcher, C: NumberedClock, A: Alarm, R: Wait + time::Clock> Server<'_, F
             keeper,
             self.clock,
             first,
-            &recorded.visits,
+            &recorded.counters,
         );
     }
 }

@@ -4,11 +4,12 @@ ghost use Rattle.job_line.specs.Limits.{IsCrew};
 ghost use Rattle.line_server.specs.Servers.{HasLast, IsServed};
 
 use crate::fault::ServeFault;
+use crate::http_serving::HttpEntrance;
 use crate::numbers::{ConnectionNumbers, count_of, numbers_at};
 use crate::recorded::Recorded;
 use crate::warden::Alarm;
 use client_connections::{Connections, Listener};
-use command_server::{NumberedClock, Visits};
+use command_server::{NumberedClock, ServerCounters};
 use fetchers::Fetcher;
 use gate_journal::Recording;
 use gate_lock::{Gate, GateLock, Receipts};
@@ -27,12 +28,14 @@ use worker_pool::{Pool, Returned};
 
 /// A server's settings: who serves clients and how many, and who fetches.
 #[derive(Drop)]
-pub struct Server<'a, F, C, A, R> {
+pub struct Server<'a, F, C, A, R: Wait + time::Clock> {
     pub rt: &'a R,
     pub alloc: Global,
     pub listener: &'a Listener,
     /// Where overseers connect beside clients, if allowed.
     pub overseers: Option<&'a Listener>,
+    /// Where clients of HTTP connect beside them, if allowed.
+    pub http: Option<&'a HttpEntrance<'a, R>>,
     pub fetcher: &'a F,
     pub clock: &'a C,
     /// Called when the history is full.
@@ -68,6 +71,7 @@ type Workers<'l, G> = Pool<ConnectionNumbers<'l>, u64, Receipts<G>, ServeFault>;
 struct Results<G: Gate> {
     served: Result<Returned<u64, Receipts<G>>, ServeFault>,
     overseen: Option<Result<Receipts<G>, ServeFault>>,
+    visited: Option<Result<Vec<Receipts<G>>, ServeFault>>,
     fetched: Option<Result<Receipts<G>, ServeFault>>,
 }
 
@@ -124,7 +128,7 @@ impl<
             gate,
             chronicle,
             journal,
-            visits: Visits::new(),
+            counters: ServerCounters::new(self.fetcher.meter(), journal.meter()),
         };
         let served = self.serve_recorded(&recorded, begun)?;
         // Entries without a reply are recorded too.
@@ -171,16 +175,53 @@ impl<
         begun: &[Authority],
     ) -> Results<G> {
         let Some(listener) = self.overseers else {
-            return self.employ_fetching(recorded, left, workers, begun);
+            return self.employ_visiting(recorded, left, workers, begun);
         };
         let (overseen, results) = thread::join(
             self.rt,
             || self.oversee(recorded, listener, left),
             || {
-                let results = self.employ_fetching(recorded, left, workers, begun);
+                let results = self.employ_visiting(recorded, left, workers, begun);
                 self.shut(listener);
                 results
             },
+        );
+        let Results {
+            served,
+            visited,
+            fetched,
+            ..
+        } = results;
+        Results {
+            served,
+            overseen: Some(overseen),
+            visited,
+            fetched,
+        }
+    }
+
+    // Runs the workers, and serves clients of HTTP beside them until none is left, if allowed. If these can't be
+    // served, no more clients are accepted, and the server ends.
+    fn employ_visiting<G: Gate + Send + Sync, J: Recorder + Sync>(
+        &self,
+        recorded: &Recorded<'_, G, J, R>,
+        left: &AtomicU64,
+        workers: Workers<'_, G>,
+        begun: &[Authority],
+    ) -> Results<G> {
+        let Some(entrance) = self.http else {
+            return self.employ_fetching(recorded, left, workers, begun);
+        };
+        let (visited, results) = thread::join(
+            self.rt,
+            || {
+                let visited = self.serve_http(recorded, entrance);
+                if visited.is_err() {
+                    self.shut(self.listener);
+                }
+                visited
+            },
+            || self.fetch_and_shut(recorded, left, workers, begun, entrance),
         );
         let Results {
             served,
@@ -189,9 +230,24 @@ impl<
         } = results;
         Results {
             served,
-            overseen: Some(overseen),
+            overseen: None,
+            visited: Some(visited),
             fetched,
         }
+    }
+
+    // Runs the workers beside clients of HTTP, whose turns end once no worker is left.
+    fn fetch_and_shut<G: Gate + Send + Sync, J: Recorder + Sync>(
+        &self,
+        recorded: &Recorded<'_, G, J, R>,
+        left: &AtomicU64,
+        workers: Workers<'_, G>,
+        begun: &[Authority],
+        entrance: &HttpEntrance<'_, R>,
+    ) -> Results<G> {
+        let results = self.employ_fetching(recorded, left, workers, begun);
+        entrance.dispatcher.shut(self.rt);
+        results
     }
 
     // Runs the workers, and fetches these sites anew beside them, if any.
@@ -206,6 +262,7 @@ impl<
             return Results {
                 served: self.employ_all(recorded, left, workers),
                 overseen: None,
+                visited: None,
                 fetched: None,
             };
         }
@@ -217,6 +274,7 @@ impl<
         Results {
             served,
             overseen: None,
+            visited: None,
             fetched: Some(fetched),
         }
     }
@@ -242,15 +300,24 @@ fn gathered<G: Gate>(
     sealed: Receipts<G>,
     results: Results<G>,
 ) -> Result<(u64, Vec<Receipts<G>>), ServeFault> {
+    let Results {
+        served,
+        overseen,
+        visited,
+        fetched,
+    } = results;
     let mut receipts = Vec::new(alloc);
     receipts.push(swept).map_err(AllocError::from)?;
     receipts.push(sealed).map_err(AllocError::from)?;
-    for end in [results.overseen, results.fetched] {
+    for end in [overseen, fetched] {
         if let Some(end) = end {
             receipts.push(end?).map_err(AllocError::from)?;
         }
     }
-    let mut served = results.served?;
+    if let Some(visited) = visited {
+        receipts.append(&mut visited?)?;
+    }
+    let mut served = served?;
     receipts.append(&mut served.receipts)?;
     let connections = served
         .works

@@ -66,7 +66,7 @@ RefreshesWithin world authority left (Err refusal) left2 old new =
     (moment : ℕ)
     × Somewhere old (λ before behind. BeginsWithin old before authority moment left (Err refusal) left2 behind new)
 
--- a job's turn begins, if no answer is in force, within the bound; nothing else counts. A refusal has its cause: a turn
+-- a job's turn begins, if it is due, within the bound; nothing else counts. A refusal has its cause: a turn
 -- of the authority is in flight; the history has no room; the authority is shut out, or the gate's limit is reached.
 abbrev pub CountsStale : Gate → List ℕ → ℕ → Result (Option Errand) BeginRefusal → ℕ → Type 0
 CountsStale g authority left (Ok (Some turn)) left2 = CountsKnown g authority left left2

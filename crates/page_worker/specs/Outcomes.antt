@@ -44,7 +44,7 @@ abbrev pub IsRedirect : Result HttpReply WireFault → Type 0
 IsRedirect (Ok reply) = class_of reply.status ≡ classes.Redirect
 IsRedirect (Err fault) = ⊥
 
--- a turn of the authority began without an answer in force, and brought one decided by fetches
+-- a turn of the authority began when one was due, and brought an answer decided by fetches
 pub record IsTurn
     (world : World) (authority : List ℕ) (own : List Entry)
     : Type 0 where
@@ -55,7 +55,7 @@ pub record IsTurn
   pub life : ℕ
   pub since_begun : IsSinceRead world begun
   pub since_arrived : IsSinceRead world arrived
-  pub stale : BeganStale authority begun turn
+  pub stale : BeganStale world.closed_for authority begun turn
   pub brings : IsBrought world.schemes (world.gives robots_limit) authority says life
   pub own_is : own ≡ entries.Begun begun authority turn ∷ entries.Arrived arrived authority turn says life ∷ []
 

@@ -10,9 +10,9 @@ use Rattle.authority_cache.specs.Lives.{greatest_life, Timed}
 use Rattle.gate_history.specs.History.{begins}
 use Rattle.gate_core.specs.declared.refusal.BeginRefusal.{BeginRefusal}
 use Rattle.gate_core.specs.declared.state.Standing.{Standing}
-use Rattle.gate_core.specs.declared.state.State.{State}
 use Rattle.gate_core.specs.Gate.{Gate, HasLegalHistory, history}
-use Rattle.gate_core.specs.States.{IsState, standing_as}
+use Rattle.gate_core.specs.Replies.{moment_at}
+use Rattle.gate_core.specs.States.{standing_as}
 use Rattle.gate_lock.specs.Desks.{DeskView, Errand, HasOut, KeepsOut}
 use Rattle.gate_lock.specs.Steps.{DeskArrives, DeskBegins, Somewhere}
 use Rattle.gate_history.specs.declared.entry.Entry.{Entry}
@@ -23,7 +23,7 @@ use Rattle.http_wire.specs.declared.response.HttpReply.{HttpReply}
 use Rattle.robots_fetch.specs.Walk.{AnswerOfAmong}
 use Rattle.fetchers.specs.Limits.{robots_limit}
 use Rattle.fetchers.specs.Walks.{AreLed, robots_reply_of}
-use Rattle.page_worker.specs.Stale.{IsNoAnswer}
+use Rattle.page_worker.specs.Stale.{IsDue}
 use Rattle.page_worker.specs.World.{IsSinceRead, World}
 
 -- what the marks of a desk say
@@ -51,20 +51,21 @@ IsUndecided says life = (says ≡ Closed closures.Other) × (life ≡ greatest_l
 abbrev pub IsBrought : Schemes → (List ℕ → Result HttpReply WireFault → Type 0) → List ℕ → Said → ℕ → Type 0
 IsBrought schemes gives authority says life = IsFetched schemes gives authority says life ⊎ IsUndecided says life
 
--- this turn began when, by the history, no answer of the authority was in force
-pub record BeganStale (authority : List ℕ) (begun turn : ℕ) : Type 0 where
+-- this turn began when, by the history, one of the authority was due: by a call at some moment, which is also the
+-- begin's unless the gate's is later
+pub record BeganStale (closed_for : ℕ) (authority : List ℕ) (begun turn : ℕ) : Type 0 where
   pub before : Gate
   pub legal : HasLegalHistory before
-  pub state : State
-  pub state_is : IsState (history before) authority begun state
-  pub lacks : IsNoAnswer state.word
+  pub called : ℕ
+  pub begun_is : begun ≡ moment_at before called
+  pub due : IsDue closed_for before authority called
   pub turn_is : turn ≡ begins (history before) + 1
 
--- a turn begins at a desk, under one lock with the check that found no answer of the authority in force
+-- a turn begins at a desk, under one lock with the check that found it due
 pub record BeginsStale (world : World) (authority : List ℕ) (turn : Errand) (old new : DeskView) : Type 0 where
   pub begun : ℕ
   pub since_begun : IsSinceRead world begun
-  pub stale : BeganStale authority begun turn.turn
+  pub stale : BeganStale world.closed_for authority begun turn.turn
   pub turn_is : turn ≡ record { authority = authority; turn = turn.turn; desk = old.no }
   pub adds : entries_of new.marks ≡ entries_of old.marks ++ entries.Begun begun authority turn.turn ∷ []
   pub out : HasOut old new 0 0 0 0 1 0
@@ -74,7 +75,7 @@ pub record DoesNothing (old new : DeskView) : Type 0 where
   pub entries_stay : entries_of new.marks ≡ entries_of old.marks
   pub out : KeepsOut old new
 
--- a turn begins if no answer is in force; nothing is done otherwise, or if the begin is refused
+-- a turn begins if it is due; nothing is done otherwise, or if the begin is refused
 abbrev pub MayBeginErrand : World → List ℕ → Result (Option Errand) BeginRefusal → DeskView → DeskView → Type 0
 MayBeginErrand world authority (Ok (Some turn)) old new = BeginsStale world authority turn old new
 MayBeginErrand world authority (Ok None) old new = DoesNothing old new

@@ -24,7 +24,7 @@ use Rattle.page_worker.specs.declared.visiting.Visited.TheVariants as visiteds
 use Rattle.page_worker.specs.Newcomers.{IsShutOut}
 use Rattle.page_worker.specs.Outcomes.{IsTurn, hop_of}
 use Rattle.page_worker.specs.Refreshes.{entries_of}
-use Rattle.page_worker.specs.Stale.{LacksAnswer}
+use Rattle.page_worker.specs.Stale.{IsDue}
 use Rattle.page_worker.specs.WaysOn.{AddsEntries, ask_hop}
 use Rattle.page_worker.specs.World.{World}
 
@@ -38,32 +38,32 @@ HasNoTurn g authority left refusals.NoMemory = Unit {0}
 HasNoTurn g authority left refusals.Busy = ⊥
 HasNoTurn g authority left refusals.PermitsFull = ⊥
 
--- no answer of the authority was in force at a gate of the desk, which began no turn for this reason
+-- a turn of the authority was due at a gate of the desk, which began none for this reason
 pub record IsTurnRefused
     (world : World) (authority : List ℕ) (left : ℕ) (refusal : Refusal) (old new : DeskView)
     : Type 0 where
   pub moment : ℕ
   pub read : world.reads moment
-  pub lacks : Somewhere old (λ before behind. LacksAnswer before authority moment
+  pub due : Somewhere old (λ before behind. IsDue world.closed_for before authority moment
       × HasNoTurn before authority left refusal × Stays before behind × Looks old before new)
 
--- at a gate of the desk an answer of the authority was in force
+-- at a gate of the desk an answer of the authority was in force, and no turn of it was due
 pub record IsInForce (world : World) (authority : List ℕ) (old : DeskView) : Type 0 where
   pub moment : ℕ
   pub read : world.reads moment
-  pub in_force : Somewhere old (λ before behind. LacksAnswer before authority moment → ⊥)
+  pub in_force : Somewhere old (λ before behind. IsDue world.closed_for before authority moment → ⊥)
 
--- an answer of the authority is seen to: a turn brings one, unless one is in force
+-- an answer of the authority is seen to: a turn brings one, unless one is in force and none is due
 abbrev pub SeesToAnswer : World → List ℕ → DeskView → DeskView → Type 0
 SeesToAnswer world authority old new =
     AddsEntries (IsTurn world authority) old new
     ⊎ ((entries_of new.marks ≡ entries_of old.marks) × IsInForce world authority old)
 
--- no answer of the authority was in force at a gate of the desk, where a turn of it was in flight; nothing is done
+-- a turn of the authority was due at a gate of the desk, where one was in flight; nothing is done
 pub record IsInFlight (world : World) (authority : List ℕ) (old new : DeskView) : Type 0 where
   pub moment : ℕ
   pub read : world.reads moment
-  pub in_flight : Somewhere old (λ before behind. LacksAnswer before authority moment
+  pub in_flight : Somewhere old (λ before behind. IsDue world.closed_for before authority moment
       × (is_fetching (history before) authority ≡ true) × Stays before behind × Looks old before new)
 
 -- ---- what a visit tells

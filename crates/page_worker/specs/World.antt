@@ -6,11 +6,12 @@ use Rattle.http_wire.specs.declared.fault.WireFault.{WireFault}
 use Rattle.http_wire.specs.declared.response.HttpReply.{HttpReply}
 use Rattle.path_normal.specs.declared.schemes.Schemes.{Schemes}
 
--- what a fetcher gives for a URL with a limit of octets, its limit of a page's body, the schemes of the pages that it
--- fetches, and a clock's readings
+-- what a fetcher gives for a URL with a limit of octets, its limit of a page's body, for how many seconds a network
+-- fault keeps a site closed, the schemes of the pages that it fetches, and a clock's readings
 pub record World : Type 1 where
   pub gives : ℕ → List ℕ → Result HttpReply WireFault → Type 0
   pub page_limit : ℕ
+  pub closed_for : ℕ
   pub schemes : Schemes
   pub reads : ℕ → Type 0
 
@@ -19,6 +20,7 @@ abbrev pub world_of : Giving → Schemes → (ℕ → Type 0) → World
 world_of giving schemes reads = record {
   gives = giving.holds;
   page_limit = giving.page_limit;
+  closed_for = giving.closed_for;
   schemes = schemes;
   reads = reads;
 }

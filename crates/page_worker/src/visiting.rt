@@ -95,7 +95,7 @@ pub struct PageVisitor<'v, F: Fetcher, C: Clock, R: Wait> {
 
 impl<F: Fetcher, C: Clock, R: Wait> PageVisitor<'_, F, C, R> {
     /// Fetches a job's page once, with these fields of a client's request. Before its ask, the robots answer
-    /// of the page's authority is refreshed if none is in force; if another desk is refreshing it, nothing is
+    /// of the page's authority is refreshed if a turn is due; if another desk is refreshing it, nothing is
     /// done, and nobody waits. A redirect is a response like others: its target needs a visit of its own.
     ///
     /// It may make only so many more authorities known, those without an answer of any age. Without one left,

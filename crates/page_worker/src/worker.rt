@@ -1,4 +1,4 @@
-//! The hops of a job, each with a refresh if no answer is in force, an ask, and a fetch by the permit.
+//! The hops of a job, each with a refresh if a turn is due, an ask, and a fetch by the permit.
 //! RFC 9309, sections 2.2, 2.3.1 and 2.4.
 ghost use Rattle.std.specs.Prelude.{◌≡◌, ◌≤◌, ◌∷◌, [], ℕ, List, vec_capacity};
 ghost use Rattle.path_normal.specs.PageText.{authority_of};
@@ -32,7 +32,7 @@ use std::sync::Wait;
 /// What a worker sees of an authority's answer, for which it does not wait.
 #[derive(Drop)]
 pub(crate) enum AnswerSeen {
-    /// It was in force, or the worker brought it.
+    /// It was in force and none was due, or the worker brought it.
     Answered,
     /// Another desk is fetching it.
     InFlight,
@@ -126,7 +126,7 @@ impl<F: Fetcher, C: Clock, N: EventObserver, R: Wait> Worker<'_, F, C, N, R> {
         }
     }
 
-    /// Refreshes the answer of a page's authority if none is in force. If another desk does, waits for its
+    /// Refreshes the answer of a page's authority if a turn is due. If another desk does, waits for its
     /// answer.
     fn see_to_answer<G: Gate>(
         &self,
@@ -151,7 +151,7 @@ impl<F: Fetcher, C: Clock, N: EventObserver, R: Wait> Worker<'_, F, C, N, R> {
         }
     }
 
-    /// Refreshes the answer of a page's authority if none is in force and no other desk does.
+    /// Refreshes the answer of a page's authority if a turn is due and no other desk does.
     pub(crate) fn find_answer<G: Gate>(
         &self,
         url: &PageUrl,
@@ -202,13 +202,14 @@ impl<F: Fetcher, C: Clock, N: EventObserver, R: Wait> Worker<'_, F, C, N, R> {
             (world_of (F.gives self.now.fetcher.now) (F.follows self.now.fetcher.now) (C.reads self.now.clock.now))
             (authority_of url.now) result desk.old desk.new }
         ensures step { Somewhere desk.old (λ old new.
-            BeginsIfStale desk.old old (authority_of url.now) moment result new desk.new
+            BeginsIfStale (F.gives self.now.fetcher.now).closed_for desk.old old (authority_of url.now) moment result new desk.new
             × CountsStale old (authority_of url.now) newcomers.old result newcomers.new) }
         ensures no { desk.new.no ≡ desk.old.no }
         ensures newcomers { newcomers.new ≤ newcomers.old }
     {
+        let closed_for = self.fetcher.closed_for();
         let mut held = desk.lend(self.rt);
-        begin_if_stale(url, desk, &mut held, moment, newcomers)
+        begin_if_stale(url, closed_for, desk, &mut held, moment, newcomers)
     }
 
     // Asks for a page and, if granted, fetches it once the site's turn comes: a denied page needs no turn.

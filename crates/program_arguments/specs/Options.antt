@@ -1,6 +1,7 @@
 -- What the program's arguments may ask for: each option is in its range, and is
 -- the one matched under its own name. docs/crawlgate.1.md has the ranges.
-use Rattle.std.specs.Prelude.{◌≡◌, ◌≤◌, ℕ, ◌^◌, ◌-◌, IfSome, List, Option, Some, None, codes, string_bytes}
+use Rattle.std.specs.Prelude.{◌≡◌, ◌≤◌, ◌⊎◌, ℕ, ◌^◌, ◌-◌, IfSome, List, Option, Some, None, String, codes, string_bytes}
+use Rattle.std.specs.declared.alloc.Global.{Global}
 use Rattle.clap.specs.Words.{first_value, one_text}
 use Rattle.clap.specs.declared.parser.matches.Found.{Found}
 use Rattle.program_arguments.specs.declared.subcommand.Ahead.{Ahead}
@@ -17,6 +18,11 @@ use Rattle.program_arguments.specs.Numbers.{IsBoundOf, IsBoundWithin, IsNumberOf
 use Rattle.program_arguments.specs.Tls.{IsLoopback, IsTlsByOf}
 use Rattle.program_arguments.specs.declared.subcommand.Notes.{Notes}
 use Rattle.program_arguments.specs.declared.subcommand.Notes.TheVariants as notes
+use Rattle.program_arguments.specs.declared.subcommand.HttpOptions.{HttpOptions}
+use Rattle.program_arguments.specs.declared.subcommand.ClientFields.{ClientFields}
+use Rattle.program_arguments.specs.declared.subcommand.ClientFields.TheVariants.{Dropped, Forwarded}
+use Rattle.program_arguments.specs.declared.subcommand.RetryAfter.{RetryAfter}
+use Rattle.program_arguments.specs.declared.subcommand.RetryAfter.TheVariants.{Heeded, Ignored}
 use Rattle.program_arguments.specs.declared.subcommand.ListenAddress.{ListenAddress}
 use Rattle.program_arguments.specs.declared.subcommand.ListenAddress.TheVariants as places
 use Rattle.program_arguments.specs.declared.subcommand.ReplayOptions.{ReplayOptions}
@@ -25,6 +31,7 @@ use Rattle.program_arguments.specs.declared.subcommand.ShiftOptions.{ShiftOption
 use Rattle.program_arguments.specs.declared.subcommand.Subcommand.{Subcommand}
 use Rattle.program_arguments.specs.declared.subcommand.Subcommand.TheVariants.{Replay, Export, Lines, Check, Audit, Shift, Serve}
 use Rattle.program_arguments.specs.declared.fetching.Fetching.{Fetching}
+use Rattle.program_arguments.specs.declared.http.HttpNumbers.{HttpNumbers}
 use Rattle.program_arguments.specs.declared.numbers.ClientBounds.{ClientBounds}
 use Rattle.program_arguments.specs.declared.numbers.ServeNumbers.{ServeNumbers}
 use Rattle.program_arguments.specs.declared.numbers.ShiftNumbers.{ShiftNumbers}
@@ -54,6 +61,10 @@ use Rattle.http_client.specs.declared.time_limits.TimeLimits.{TimeLimits}
 abbrev pub IsDelay : ℕ → Type 0
 IsDelay seconds = seconds ≤ 600
 
+-- the seconds for which a network fault keeps a site closed, if they are set: a minute to a day
+abbrev pub IsRetry : Option ℕ → Type 0
+IsRetry seconds = IsBoundWithin 60 86400 seconds
+
 -- a shift has as many workers as may share it and pauses within the limit, its book's limits are in range, its
 -- fetches take no longer than those of crawlers, and the program that opens TLS is on this machine
 pub record AreForShift (options : ShiftOptions) : Type 0 where
@@ -63,6 +74,7 @@ pub record AreForShift (options : ShiftOptions) : Type 0 where
   pub times : AreWithin options.times
   pub tls : IfSome options.tls_by IsLoopback
   pub contact : IsAllowedContact options.contact
+  pub retry_closed : IsRetry options.retry_closed
   pub journal : IfSome options.journal (λ journal. IsRoom journal.room)
 
 -- the gate's time for lines sent ahead is within the limit
@@ -85,6 +97,12 @@ AreTexts texts = IsBoundWithin text_limit (2 ^ 63 - 1) texts
 abbrev pub IsPageLimit : ℕ → Type 0
 IsPageLimit limit = (1 ≤ limit) × (limit ≤ 67108864)
 
+-- how HTTP clients are served is in range
+pub record AreHttpWithin (http : HttpOptions) : Type 0 where
+  pub connections : (1 ≤ http.connections) × (http.connections ≤ 10000)
+  pub fetchers : (1 ≤ http.fetchers) × (http.fetchers ≤ 1024)
+  pub delay : http.delay ≤ 600
+
 -- a server's workers, connections and patience are within their limits, and so are the bounds of its clients; its
 -- book's limits and its fetches are as for a shift
 pub record AreForServe (options : ServeOptions) : Type 0 where
@@ -94,17 +112,21 @@ pub record AreForServe (options : ServeOptions) : Type 0 where
   pub times : AreWithin options.times
   pub tls : IfSome options.tls_by IsLoopback
   pub contact : IsAllowedContact options.contact
+  pub retry_closed : IsRetry options.retry_closed
   pub patience : IsPatience options.patience
   pub ahead : IsAllowedAhead options.ahead
   pub bounds : AreBoundsOfClients options.client_permits options.client_authorities options.client_entries
   pub texts : AreTexts options.texts
   pub page_limit : IsPageLimit options.page_limit
   pub journal : IfSome options.journal (λ journal. IsRoom journal.room)
+  pub http : IfSome options.http AreHttpWithin
 
--- the TLS program of what fetches is on this machine, its contact can be a comment, and its journal's room is in range
+-- the TLS program of what fetches is on this machine, its contact can be a comment, and its seconds for closed sites
+-- and its journal's room are in range
 pub record AreForFetching (options : Fetching) : Type 0 where
   pub tls : IfSome options.tls_by IsLoopback
   pub contact : IsAllowedContact options.contact
+  pub retry_closed : IsRetry options.retry_closed
   pub journal : IfSome options.journal (λ journal. IsRoom journal.room)
 
 -- the subcommand's options are in their ranges
@@ -159,6 +181,11 @@ pub record AreBadJobsOf (words : Found) (asked : BadJobs) : Type 0 where
   pub skip : one_text words (codes "skip") ≡ Some (codes "true") → asked ≡ bad_jobs.Skip
   pub end : one_text words (codes "skip") ≡ Some (codes "false") → asked ≡ bad_jobs.End
 
+-- the pipe is the one that was matched, if any
+abbrev pub IsPipeOf : Found → Option (String Global) → Type 0
+IsPipeOf words None = first_value words (codes "until") ≡ None
+IsPipeOf words (Some path) = first_value words (codes "until") ≡ Some (string_bytes path)
+
 -- the numbers of a shift are in their ranges
 pub record AreShiftNumbers (numbers : ShiftNumbers) : Type 0 where
   pub crew : IsCrew numbers.workers
@@ -179,6 +206,7 @@ pub record AreFetchingOf (words : Found) (options : Fetching) : Type 0 where
   pub not_to : AreBlocksOf words options.not_to.items
   pub tls : IsTlsByOf words options.tls_by
   pub contact : IsContactOf words options.contact
+  pub retry_closed : IsBoundOf words (codes "retry-closed") options.retry_closed
   pub journal : IsJournalOf words options.journal
 
 -- the options of a shift are those matched
@@ -187,11 +215,13 @@ pub record AreShiftOf (words : Found) (options : ShiftOptions) : Type 0 where
   pub not_to : AreBlocksOf words options.not_to.items
   pub tls : IsTlsByOf words options.tls_by
   pub contact : IsContactOf words options.contact
+  pub retry_closed : IsBoundOf words (codes "retry-closed") options.retry_closed
   pub workers : IsNumberOf words (codes "workers") options.workers
   pub delay : IsNumberOf words (codes "delay") options.delay
   pub limits : AreLimitsOf words options.limits
   pub times : AreTimesOf words options.times
   pub skips : AreBadJobsOf words options.bad_jobs
+  pub until : IsPipeOf words options.until
   pub journal : IsJournalOf words options.journal
 
 -- the limit is the number matched under its own name
@@ -226,10 +256,67 @@ IsSealPlaceOf words None =
     (first_value words (codes "seal-socket") ≡ None) × (first_value words (codes "seal-port") ≡ None)
 IsSealPlaceOf words (Some place) = IsSealPlaceBy words place
 
--- clients and overseers connect where the options say
+-- HTTP clients connect at the matched socket, else at the matched port
+abbrev pub IsHttpPlaceBy : Found → ListenAddress → Type 0
+IsHttpPlaceBy words (places.Port port) =
+    (first_value words (codes "http-socket") ≡ None) × IsNumberOf words (codes "http") port
+IsHttpPlaceBy words (places.Socket path) = first_value words (codes "http-socket") ≡ Some (string_bytes path)
+
+-- HTTP clients have a place if one was matched
+abbrev pub IsHttpPlaceOf : Found → Option ListenAddress → Type 0
+IsHttpPlaceOf words None = (first_value words (codes "http-socket") ≡ None) × (first_value words (codes "http") ≡ None)
+IsHttpPlaceOf words (Some place) = IsHttpPlaceBy words place
+
+-- clients, overseers and HTTP clients connect where the options say
 pub record ArePlacesOf (words : Found) (places : ServePlaces) : Type 0 where
   pub clients : IsPlaceOf words places.clients
   pub overseers : IsSealPlaceOf words places.overseers
+  pub http : IsHttpPlaceOf words places.http
+
+-- the numbers for HTTP clients are in their ranges
+pub record AreHttpNumbers (numbers : HttpNumbers) : Type 0 where
+  pub connections : IsBoundWithin 1 10000 numbers.connections
+  pub fetchers : IsBoundWithin 1 1024 numbers.fetchers
+  pub delay : IsBoundWithin 0 600 numbers.delay
+
+-- the numbers for HTTP clients are those matched
+pub record AreHttpNumbersOf (words : Found) (numbers : HttpNumbers) : Type 0 where
+  pub connections : IsBoundOf words (codes "http-connections") numbers.connections
+  pub fetchers : IsBoundOf words (codes "fetchers") numbers.fetchers
+  pub delay : IsBoundOf words (codes "delay") numbers.delay
+
+-- the number matched under this name; without it the usual one
+abbrev pub IsNumberOr : Found → List ℕ → ℕ → ℕ → Type 0
+IsNumberOr words name usual number =
+    IsNumberOf words name number ⊎ ((first_value words name ≡ None) × (number ≡ usual))
+
+-- a site's Retry-After is heeded if the flag says so
+pub record IsRetryAfterOf (words : Found) (retry_after : RetryAfter) : Type 0 where
+  pub heeded : one_text words (codes "heed-retry-after") ≡ Some (codes "true") → retry_after ≡ Heeded
+  pub ignored : one_text words (codes "heed-retry-after") ≡ Some (codes "false") → retry_after ≡ Ignored
+
+-- fields of a client's request go to the site if the flag says so
+pub record AreClientFieldsOf (words : Found) (fields : ClientFields) : Type 0 where
+  pub forwarded : one_text words (codes "forward") ≡ Some (codes "true") → fields ≡ Forwarded
+  pub dropped : one_text words (codes "forward") ≡ Some (codes "false") → fields ≡ Dropped
+
+-- HTTP clients are served as matched; without a number as many threads fetch as there are workers
+pub record AreHttpOf (words : Found) (workers : ℕ) (http : HttpOptions) : Type 0 where
+  pub place : IsHttpPlaceBy words http.place
+  pub connections : IsNumberOr words (codes "http-connections") 1024 http.connections
+  pub fetchers : IsNumberOr words (codes "fetchers") workers http.fetchers
+  pub delay : IsNumberOr words (codes "delay") 0 http.delay
+  pub retry_after : IsRetryAfterOf words http.retry_after
+  pub fields : AreClientFieldsOf words http.fields
+
+-- HTTP clients are served if a place was matched; without one nothing else was matched for them
+abbrev pub IsHttpOf : Found → ℕ → Option HttpOptions → Type 0
+IsHttpOf words workers None =
+    IsHttpPlaceOf words None
+    × ((first_value words (codes "http-connections") ≡ None) × (first_value words (codes "fetchers") ≡ None)
+    × (first_value words (codes "delay") ≡ None) × IsRetryAfterOf words Ignored
+    × AreClientFieldsOf words Dropped)
+IsHttpOf words workers (Some http) = AreHttpOf words workers http
 
 -- the seconds are the number matched, else unlimited
 abbrev pub IsAheadOf : Found → Ahead → Type 0
@@ -258,6 +345,7 @@ pub record AreServeNumbers (numbers : ServeNumbers) : Type 0 where
   pub times : AreWithin numbers.times
   pub texts : AreTexts numbers.texts
   pub page_limit : IsPageLimit numbers.page_limit
+  pub http : AreHttpNumbers numbers.http
   pub clients : AreClientBounds numbers.clients
 
 -- the numbers of a server are those matched
@@ -268,6 +356,7 @@ pub record AreServeNumbersOf (words : Found) (numbers : ServeNumbers) : Type 0 w
   pub times : AreTimesOf words numbers.times
   pub texts : IsBoundOf words (codes "texts") numbers.texts
   pub page_limit : IsNumberOf words (codes "page-limit") numbers.page_limit
+  pub http : AreHttpNumbersOf words numbers.http
   pub clients : AreClientBoundsOf words numbers.clients
 
 -- the options of a server are those matched
@@ -276,8 +365,10 @@ pub record AreServeOf (words : Found) (options : ServeOptions) : Type 0 where
   pub not_to : AreBlocksOf words options.not_to.items
   pub tls : IsTlsByOf words options.tls_by
   pub contact : IsContactOf words options.contact
+  pub retry_closed : IsBoundOf words (codes "retry-closed") options.retry_closed
   pub place : IsPlaceOf words options.place
   pub seal_place : IsSealPlaceOf words options.seal_place
+  pub http : IsHttpOf words options.workers options.http
   pub workers : IsNumberOf words (codes "workers") options.workers
   pub connections : AreConnectionsOf words options.connections
   pub limits : AreLimitsOf words options.limits

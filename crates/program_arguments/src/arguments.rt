@@ -3,13 +3,14 @@
 use crate::help;
 use crate::number_arguments::{
     AHEAD, AUTHORITIES, CLIENT_AUTHORITIES, CLIENT_ENTRIES, CLIENT_PERMITS, CLIENTS, CONNECT,
-    CONNECTIONS, DELAY, FETCH, GENERATION, JOBS, JOURNAL_ROOM, LOG, NumberArgument, PAGE_LIMIT,
-    PATIENCE, PLACES, PORT, READ, SEAL_PORT, SLOTS, TEXTS,
+    CONNECTIONS, DELAY, DELAY_OF_SERVER, FETCH, FETCHERS, GENERATION, HTTP, HTTP_CONNECTIONS, JOBS,
+    JOURNAL_ROOM, LOG, NumberArgument, PAGE_LIMIT, PATIENCE, PLACES, PORT, READ, RETRY_CLOSED,
+    SEAL_PORT, SLOTS, TEXTS,
 };
 use crate::word_arguments::{
-    CONTACT, ENDLESS, EXPLAIN, EXPORT, EXPORT_OF_SHIFT, HTTPS, HTTPS_PAGES, JOURNAL,
-    JOURNAL_OF_SHIFT, JOURNAL_SYNC, NOT_TO, NOTES, PUBLIC, ROBOTS, SEAL_SOCKET, SKIP, SOCKET,
-    TLS_BY, TOKEN, TSV, URL, WordArgument,
+    CONTACT, ENDLESS, EXPLAIN, EXPORT, EXPORT_OF_SHIFT, FORWARD, HEED_RETRY_AFTER, HTTP_SOCKET,
+    HTTPS, HTTPS_PAGES, JOURNAL, JOURNAL_OF_SHIFT, JOURNAL_SYNC, NOT_TO, NOTES, PUBLIC, ROBOTS,
+    SEAL_SOCKET, SKIP, SOCKET, TLS_BY, TOKEN, TSV, UNTIL, URL, WordArgument,
 };
 use std::alloc::{AllocError, Global};
 
@@ -37,7 +38,7 @@ pub(crate) const SUBCOMMANDS: [SubcommandArguments; 6] = [
 
 const REPLAY: SubcommandArguments = SubcommandArguments {
     name: "replay",
-    about: "Answers the lines of standard input, one reply a line",
+    about: "Answer each line of standard input with one reply",
     lines: help::REPLAY,
     arguments: &[
         Argument::Number(SLOTS),
@@ -52,7 +53,7 @@ const REPLAY: SubcommandArguments = SubcommandArguments {
 
 const SHIFT: SubcommandArguments = SubcommandArguments {
     name: "shift",
-    about: "Fetches the pages of the jobs on standard input, and writes what came of them",
+    about: "Fetch the pages of the jobs on standard input, and report the results",
     lines: help::SHIFT,
     arguments: &[
         Argument::Number(SLOTS),
@@ -64,6 +65,7 @@ const SHIFT: SubcommandArguments = SubcommandArguments {
         Argument::Number(CONNECT),
         Argument::Number(READ),
         Argument::Number(FETCH),
+        Argument::Number(RETRY_CLOSED),
         Argument::Word(PUBLIC),
         Argument::Word(NOT_TO),
         Argument::Word(TLS_BY),
@@ -71,6 +73,7 @@ const SHIFT: SubcommandArguments = SubcommandArguments {
         Argument::Word(EXPORT_OF_SHIFT),
         Argument::Word(TSV),
         Argument::Word(SKIP),
+        Argument::Word(UNTIL),
         Argument::Word(JOURNAL_OF_SHIFT),
         Argument::Word(JOURNAL_SYNC),
     ],
@@ -78,13 +81,20 @@ const SHIFT: SubcommandArguments = SubcommandArguments {
 
 const SERVE: SubcommandArguments = SubcommandArguments {
     name: "serve",
-    about: "Answers clients of this machine that connect to a port of 127.0.0.1 or to a socket, a reply a line",
+    about: "Run one gate for the crawlers of this machine, over lines or HTTP",
     lines: help::SERVE,
     arguments: &[
         Argument::Number(PORT),
         Argument::Word(SOCKET),
         Argument::Number(SEAL_PORT),
         Argument::Word(SEAL_SOCKET),
+        Argument::Number(HTTP),
+        Argument::Word(HTTP_SOCKET),
+        Argument::Number(HTTP_CONNECTIONS),
+        Argument::Number(FETCHERS),
+        Argument::Number(DELAY_OF_SERVER),
+        Argument::Word(HEED_RETRY_AFTER),
+        Argument::Word(FORWARD),
         Argument::Number(CLIENTS),
         Argument::Number(CONNECTIONS),
         Argument::Number(SLOTS),
@@ -94,6 +104,7 @@ const SERVE: SubcommandArguments = SubcommandArguments {
         Argument::Number(CONNECT),
         Argument::Number(READ),
         Argument::Number(FETCH),
+        Argument::Number(RETRY_CLOSED),
         Argument::Number(TEXTS),
         Argument::Number(PAGE_LIMIT),
         Argument::Word(PUBLIC),
@@ -114,7 +125,7 @@ const SERVE: SubcommandArguments = SubcommandArguments {
 
 const CHECK: SubcommandArguments = SubcommandArguments {
     name: "check",
-    about: "Says of URLs whether a robots.txt allows them, and by which line",
+    about: "Say whether a robots.txt allows URLs, and by which line",
     lines: help::CHECK,
     arguments: &[
         Argument::Word(TOKEN),
@@ -126,14 +137,14 @@ const CHECK: SubcommandArguments = SubcommandArguments {
 
 const LINES: SubcommandArguments = SubcommandArguments {
     name: "lines",
-    about: "Writes what each line of the robots.txt on standard input says",
+    about: "Write what each line of the robots.txt on standard input means",
     lines: help::LINES,
     arguments: &[Argument::Word(NOTES)],
 };
 
 const AUDIT: SubcommandArguments = SubcommandArguments {
     name: "audit",
-    about: "Checks every decision in the history, or in the segments, on standard input",
+    about: "Check every decision in the history on standard input",
     lines: help::AUDIT,
     arguments: &[Argument::Word(HTTPS_PAGES)],
 };

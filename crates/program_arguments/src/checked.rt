@@ -5,13 +5,11 @@ ghost use Rattle.clap.specs.Words.{found_of};
 ghost use Rattle.program_arguments.specs.Options.{IsChosen, IsChosenBy, IsDetailOf, IsTextOf};
 
 use crate::subcommand::{CheckDetail, CheckOptions, CheckedText, CheckedUrls, Subcommand};
+use crate::word_fault::WordFault;
 use crate::words::Chosen;
 use clap::ArgMatches;
 use robots_text::{Token, TokenFault};
 use std::alloc::{AllocError, Global};
-
-// Why arguments that `clap` takes are refused.
-const BAD_TOKEN: &str = "a product token has 1 to 64 letters, - and _";
 
 /// The check that was matched.
 pub(crate) fn check_of(alloc: Global, matches: &ArgMatches<'_>) -> Result<Chosen, AllocError>
@@ -26,7 +24,7 @@ pub(crate) fn check_of(alloc: Global, matches: &ArgMatches<'_>) -> Result<Chosen
             urls: urls_of(alloc, matches)?,
             detail: detail_of(matches),
         }))),
-        Err(TokenFault::BadToken) => Ok(Chosen::Refused(BAD_TOKEN)),
+        Err(TokenFault::BadToken) => Ok(Chosen::Refused(WordFault::Token)),
         Err(TokenFault::NoMemory) => Err(AllocError),
     }
 }

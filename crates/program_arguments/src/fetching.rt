@@ -7,7 +7,7 @@ ghost use Rattle.program_arguments.specs.Blocks.{AreBlocks, AreBlocksOf};
 
 use crate::contact::contact_of;
 use crate::journal_options::{journal_of, sync_of};
-use crate::number_options::JOURNAL_ROOM;
+use crate::number_options::{JOURNAL_ROOM, RETRY_CLOSED};
 use crate::numbers::bound_of;
 use crate::subcommand::{Contact, JournalOptions};
 use crate::tls::tls_by_of;
@@ -17,13 +17,15 @@ use http_client::{AddressBlock, Reach};
 use std::alloc::Global;
 use std::net::SocketAddr;
 
-/// What fetches reach, by which program, whom they name, and where what is decided is kept.
+/// What fetches reach, by which program, whom they name, how long a network fault keeps a site closed, and where
+/// what is decided is kept.
 #[derive(Drop)]
 pub(crate) struct Fetching {
     pub(crate) reach: Reach,
     pub(crate) not_to: Vec<AddressBlock>,
     pub(crate) tls_by: Option<SocketAddr>,
     pub(crate) contact: Contact,
+    pub(crate) retry_closed: Option<u64>,
     pub(crate) journal: Option<JournalOptions>,
 }
 
@@ -33,6 +35,9 @@ pub(crate) fn fetching_of(alloc: Global, matches: &ArgMatches<'_>) -> Result<Fet
     ensures words { IfOk result (AreFetchingOf (found_of matches.now)) }
 {
     let Some(room) = bound_of(matches, JOURNAL_ROOM) else {
+        return Err(WordFault::Number);
+    };
+    let Some(retry_closed) = bound_of(matches, RETRY_CLOSED) else {
         return Err(WordFault::Number);
     };
     let sync = sync_of(matches)?;
@@ -45,6 +50,7 @@ pub(crate) fn fetching_of(alloc: Global, matches: &ArgMatches<'_>) -> Result<Fet
         not_to: not_to_of(alloc, matches)?,
         tls_by,
         contact,
+        retry_closed,
         journal: journal_of(alloc, sync, room, matches)?,
     })
 }

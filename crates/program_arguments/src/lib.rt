@@ -8,11 +8,13 @@ mod command;
 mod contact;
 mod fetching;
 mod help;
+mod http;
 mod journal_options;
 mod number_arguments;
 mod number_options;
 mod numbers;
 mod places;
+mod refusal;
 mod subcommand;
 mod tls;
 mod word_arguments;
@@ -20,7 +22,8 @@ mod word_fault;
 mod words;
 
 pub use subcommand::{
-    Ahead, BadJobs, CheckDetail, CheckOptions, CheckedText, CheckedUrls, Contact, JournalOptions,
-    ListenAddress, Notes, ReplayOptions, ServeOptions, ShiftOptions, ShiftOutput, Subcommand,
+    Ahead, BadJobs, CheckDetail, CheckOptions, CheckedText, CheckedUrls, ClientFields, Contact,
+    HttpOptions, JournalOptions, ListenAddress, Notes, ReplayOptions, RetryAfter, ServeOptions,
+    ShiftOptions, ShiftOutput, Subcommand,
 };
 pub use words::options;

@@ -24,7 +24,7 @@ pub(crate) struct NumberArgument {
 pub(crate) const SLOTS: NumberArgument = NumberArgument {
     option: options::SLOTS,
     usual: Some(1_024),
-    about: "Permits that may be out at a time",
+    about: "Permits that may be outstanding at once",
     needs: &[],
 };
 
@@ -32,7 +32,7 @@ pub(crate) const SLOTS: NumberArgument = NumberArgument {
 pub(crate) const GENERATION: NumberArgument = NumberArgument {
     option: options::GENERATION,
     usual: Some(1),
-    about: "Generation of the first permit of each slot",
+    about: "Generation from which the permits of each slot are numbered",
     needs: &[],
 };
 
@@ -40,7 +40,7 @@ pub(crate) const GENERATION: NumberArgument = NumberArgument {
 pub(crate) const LOG: NumberArgument = NumberArgument {
     option: options::LOG,
     usual: Some(MAX_LOG),
-    about: "Entries of the history",
+    about: "Entries that the history may have",
     needs: &[],
 };
 
@@ -48,7 +48,7 @@ pub(crate) const LOG: NumberArgument = NumberArgument {
 pub(crate) const AUTHORITIES: NumberArgument = NumberArgument {
     option: options::AUTHORITIES,
     usual: Some(MAX_AUTHORITIES),
-    about: "Authorities that are known at a time",
+    about: "Sites (a host with its port) known at once",
     needs: &[],
 };
 
@@ -56,7 +56,7 @@ pub(crate) const AUTHORITIES: NumberArgument = NumberArgument {
 pub(crate) const PLACES: NumberArgument = NumberArgument {
     option: options::PLACES,
     usual: Some(MAX_PLACES),
-    about: "Permits that may be out for an authority at a time",
+    about: "Permits that may be outstanding for one site at once",
     needs: &[],
 };
 
@@ -64,7 +64,7 @@ pub(crate) const PLACES: NumberArgument = NumberArgument {
 pub(crate) const JOBS: NumberArgument = NumberArgument {
     option: options::JOBS,
     usual: Some(4),
-    about: "Jobs that are done at a time",
+    about: "Jobs done at once",
     needs: &[],
 };
 
@@ -72,7 +72,7 @@ pub(crate) const JOBS: NumberArgument = NumberArgument {
 pub(crate) const DELAY: NumberArgument = NumberArgument {
     option: options::DELAY,
     usual: Some(0),
-    about: "Seconds between the begins of two fetches at a site",
+    about: "Minimum seconds between the starts of two fetches from one site",
     needs: &[],
 };
 
@@ -80,7 +80,7 @@ pub(crate) const DELAY: NumberArgument = NumberArgument {
 pub(crate) const CONNECT: NumberArgument = NumberArgument {
     option: options::CONNECT,
     usual: Some(CONNECT_SECONDS),
-    about: "Seconds for a connection to one address",
+    about: "Seconds to connect to one address",
     needs: &[],
 };
 
@@ -96,7 +96,15 @@ pub(crate) const READ: NumberArgument = NumberArgument {
 pub(crate) const FETCH: NumberArgument = NumberArgument {
     option: options::FETCH,
     usual: Some(WHOLE_SECONDS),
-    about: "Seconds for a page, or a robots file with its redirects",
+    about: "Seconds for a page, or for a robots.txt with its redirects",
+    needs: &[],
+};
+
+/// How long a network fault keeps a site closed.
+pub(crate) const RETRY_CLOSED: NumberArgument = NumberArgument {
+    option: options::RETRY_CLOSED,
+    usual: None,
+    about: "Seconds until a site closed by a network fault has its robots.txt fetched anew (a day if not given)",
     needs: &[],
 };
 
@@ -104,7 +112,7 @@ pub(crate) const FETCH: NumberArgument = NumberArgument {
 pub(crate) const PORT: NumberArgument = NumberArgument {
     option: options::PORT,
     usual: Some(0),
-    about: "Port to listen at, where 0 takes one that is free",
+    about: "Port of 127.0.0.1 to listen on; 0 takes a free one",
     needs: &[],
 };
 
@@ -112,7 +120,7 @@ pub(crate) const PORT: NumberArgument = NumberArgument {
 pub(crate) const SEAL_PORT: NumberArgument = NumberArgument {
     option: options::SEAL_PORT,
     usual: None,
-    about: "Port for SEAL, INFO, WHY, STATE and QUIT alone, beside the clients; 0 takes one that is free",
+    about: "Another port, only for SEAL, INFO, WHY, STATE and QUIT; 0 takes a free one",
     needs: &[],
 };
 
@@ -120,7 +128,39 @@ pub(crate) const SEAL_PORT: NumberArgument = NumberArgument {
 pub(crate) const PAGE_LIMIT: NumberArgument = NumberArgument {
     option: options::PAGE_LIMIT,
     usual: Some(1_048_576),
-    about: "Bytes that are read of a page",
+    about: "Bytes read of a page",
+    needs: &[],
+};
+
+/// The port for HTTP clients.
+pub(crate) const HTTP: NumberArgument = NumberArgument {
+    option: options::HTTP,
+    usual: None,
+    about: "Port of 127.0.0.1 on which HTTP clients fetch pages through the gate; 0 takes a free one",
+    needs: &[],
+};
+
+/// The HTTP connections at a time.
+pub(crate) const HTTP_CONNECTIONS: NumberArgument = NumberArgument {
+    option: options::HTTP_CONNECTIONS,
+    usual: None,
+    about: "HTTP connections served at once (1024 if not given)",
+    needs: &[],
+};
+
+/// The threads that fetch pages for HTTP clients.
+pub(crate) const FETCHERS: NumberArgument = NumberArgument {
+    option: options::FETCHERS,
+    usual: None,
+    about: "Pages fetched for HTTP clients at once (as many as --workers if not given)",
+    needs: &[],
+};
+
+/// The pause at a site, for HTTP clients of a server.
+pub(crate) const DELAY_OF_SERVER: NumberArgument = NumberArgument {
+    option: options::DELAY,
+    usual: None,
+    about: "Minimum seconds between the starts of two visits to one site for HTTP clients (0 if not given)",
     needs: &[],
 };
 
@@ -128,7 +168,7 @@ pub(crate) const PAGE_LIMIT: NumberArgument = NumberArgument {
 pub(crate) const CLIENTS: NumberArgument = NumberArgument {
     option: options::CLIENTS,
     usual: Some(4),
-    about: "Clients that are served at a time",
+    about: "Clients served at once",
     needs: &[],
 };
 
@@ -136,7 +176,7 @@ pub(crate) const CLIENTS: NumberArgument = NumberArgument {
 pub(crate) const CONNECTIONS: NumberArgument = NumberArgument {
     option: options::CONNECTIONS,
     usual: Some(MAX_CONNECTIONS),
-    about: "Connections that are taken in all",
+    about: "Connections accepted before the server ends",
     needs: &[],
 };
 
@@ -144,7 +184,7 @@ pub(crate) const CONNECTIONS: NumberArgument = NumberArgument {
 pub(crate) const PATIENCE: NumberArgument = NumberArgument {
     option: options::PATIENCE,
     usual: Some(PATIENCE_SECONDS),
-    about: "Seconds that a client is waited for between two ends of lines",
+    about: "Seconds to wait for a client's next line",
     needs: &[],
 };
 
@@ -152,7 +192,7 @@ pub(crate) const PATIENCE: NumberArgument = NumberArgument {
 pub(crate) const AHEAD: NumberArgument = NumberArgument {
     option: options::AHEAD,
     usual: None,
-    about: "Seconds of fetches for lines that a client sends ahead; no bound, where it is left out",
+    about: "Seconds that fetches for lines sent ahead may take (no limit if not given)",
     needs: &[],
 };
 
@@ -160,7 +200,7 @@ pub(crate) const AHEAD: NumberArgument = NumberArgument {
 pub(crate) const CLIENT_PERMITS: NumberArgument = NumberArgument {
     option: options::CLIENT_PERMITS,
     usual: None,
-    about: "Permits that one client may have out; all, where it is left out",
+    about: "Permits that one client may hold (all if not given)",
     needs: &[],
 };
 
@@ -168,7 +208,7 @@ pub(crate) const CLIENT_PERMITS: NumberArgument = NumberArgument {
 pub(crate) const CLIENT_AUTHORITIES: NumberArgument = NumberArgument {
     option: options::CLIENT_AUTHORITIES,
     usual: None,
-    about: "Authorities that may become known by one client; all, where it is left out",
+    about: "Sites that one client may make known (all if not given)",
     needs: &[],
 };
 
@@ -176,7 +216,7 @@ pub(crate) const CLIENT_AUTHORITIES: NumberArgument = NumberArgument {
 pub(crate) const CLIENT_ENTRIES: NumberArgument = NumberArgument {
     option: options::CLIENT_ENTRIES,
     usual: None,
-    about: "Entries of the history that one client may make; all, where it is left out",
+    about: "History entries that one client may make (all if not given)",
     needs: &[],
 };
 
@@ -184,7 +224,7 @@ pub(crate) const CLIENT_ENTRIES: NumberArgument = NumberArgument {
 pub(crate) const TEXTS: NumberArgument = NumberArgument {
     option: options::TEXTS,
     usual: None,
-    about: "Octets of all robots.txt files that are kept, past which a further one closes its site; all, where it is left out",
+    about: "Bytes of robots.txt files kept in all; a file past them closes its site (no limit if not given)",
     needs: &[],
 };
 
@@ -192,7 +232,7 @@ pub(crate) const TEXTS: NumberArgument = NumberArgument {
 pub(crate) const JOURNAL_ROOM: NumberArgument = NumberArgument {
     option: options::JOURNAL_ROOM,
     usual: None,
-    about: "Octets that the journal's files may have together; all, where it is left out",
+    about: "Bytes that the journal's files may have together (no limit if not given)",
     needs: &["journal"],
 };
 

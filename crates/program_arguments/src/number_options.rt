@@ -13,6 +13,12 @@ const MIN_JOURNAL_ROOM: u64 = 1 << 23;
 // The most octets that files or texts may be given: those that a file may have.
 const MAX_ROOM: u64 = (1 << 63) - 1;
 
+// The most HTTP connections at a time.
+const MAX_HTTP_CONNECTIONS: u64 = 10_000;
+
+// The most threads that fetch pages for HTTP clients.
+const MAX_FETCHERS: u64 = 1_024;
+
 /// An option that is a number from `least` to `most`.
 #[derive(Clone, Copy)]
 pub(crate) struct NumberOption {
@@ -91,6 +97,13 @@ pub(crate) const FETCH: NumberOption = NumberOption {
     most: WHOLE_SECONDS,
 };
 
+/// How long a network fault keeps a site closed.
+pub(crate) const RETRY_CLOSED: NumberOption = NumberOption {
+    name: "retry-closed",
+    least: 60,
+    most: 86_400,
+};
+
 /// The port for clients.
 pub(crate) const PORT: NumberOption = NumberOption {
     name: "port",
@@ -124,6 +137,27 @@ pub(crate) const PAGE_LIMIT: NumberOption = NumberOption {
     name: "page-limit",
     least: 1,
     most: 67_108_864,
+};
+
+/// The port for HTTP clients.
+pub(crate) const HTTP: NumberOption = NumberOption {
+    name: "http",
+    least: 0,
+    most: 65_535,
+};
+
+/// The HTTP connections at a time.
+pub(crate) const HTTP_CONNECTIONS: NumberOption = NumberOption {
+    name: "http-connections",
+    least: 1,
+    most: MAX_HTTP_CONNECTIONS,
+};
+
+/// The threads that fetch pages for HTTP clients.
+pub(crate) const FETCHERS: NumberOption = NumberOption {
+    name: "fetchers",
+    least: 1,
+    most: MAX_FETCHERS,
 };
 
 /// The workers of a server.

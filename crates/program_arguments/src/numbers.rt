@@ -9,6 +9,7 @@ ghost use Rattle.program_arguments.specs.Options.{AreClientBounds, AreClientBoun
 ghost use Rattle.program_arguments.specs.Numbers.{IsBoundOf, IsBoundWithin, IsNumberOf};
 ghost use Rattle.http_client.specs.TimeLimits.{AreWithin};
 
+use crate::http::{HttpNumbers, http_numbers_of};
 use crate::number_options::{
     AHEAD, AUTHORITIES, CLIENT_AUTHORITIES, CLIENT_ENTRIES, CLIENT_PERMITS, CLIENTS, CONNECT,
     CONNECTIONS, DELAY, FETCH, JOBS, LOG, NumberOption, PAGE_LIMIT, PATIENCE, PLACES, READ, SLOTS,
@@ -158,6 +159,7 @@ pub(crate) struct ServeNumbers {
     pub(crate) times: TimeLimits,
     pub(crate) texts: Option<u64>,
     pub(crate) page_limit: u64,
+    pub(crate) http: HttpNumbers,
     pub(crate) clients: ClientBounds,
 }
 
@@ -173,6 +175,7 @@ pub(crate) fn serve_numbers_of(matches: &ArgMatches<'_>) -> Option<ServeNumbers>
         times: times_of(matches)?,
         texts: bound_of(matches, TEXTS)?,
         page_limit: number_of(matches, PAGE_LIMIT)?,
+        http: http_numbers_of(matches)?,
         clients: client_bounds_of(matches)?,
     })
 }

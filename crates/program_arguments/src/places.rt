@@ -2,9 +2,9 @@
 //! See docs/crawlgate.1.md.
 ghost use Rattle.std.specs.Prelude.{IfOk};
 ghost use Rattle.clap.specs.Words.{found_of};
-ghost use Rattle.program_arguments.specs.Options.{ArePlacesOf, IsPlaceOf, IsSealPlaceOf, IsSocketAt};
+ghost use Rattle.program_arguments.specs.Options.{ArePlacesOf, IsHttpPlaceOf, IsPlaceOf, IsSealPlaceOf, IsSocketAt};
 
-use crate::number_options::{PORT, SEAL_PORT};
+use crate::number_options::{HTTP, PORT, SEAL_PORT};
 use crate::numbers::port_of;
 use crate::subcommand::ListenAddress;
 use crate::word_fault::WordFault;
@@ -14,11 +14,12 @@ use std::alloc::Global;
 // The most octets of a socket's path. (Linux takes 107; the socket is made at a path with 11 more.)
 const MAX_PATH: usize = 96;
 
-/// Where clients connect, and overseers, if they have a place of their own.
+/// Where clients connect, and overseers and HTTP clients, if they have places of their own.
 #[derive(Drop)]
 pub(crate) struct ServePlaces {
     pub(crate) clients: ListenAddress,
     pub(crate) overseers: Option<ListenAddress>,
+    pub(crate) http: Option<ListenAddress>,
 }
 
 /// The places from the options.
@@ -28,6 +29,7 @@ pub(crate) fn places_of(alloc: Global, matches: &ArgMatches<'_>) -> Result<Serve
     Ok(ServePlaces {
         clients: place_of(alloc, matches)?,
         overseers: seal_place_of(alloc, matches)?,
+        http: http_place_of(alloc, matches)?,
     })
 }
 
@@ -61,6 +63,24 @@ fn seal_place_of(
     }
 }
 
+fn http_place_of(
+    alloc: Global,
+    matches: &ArgMatches<'_>,
+) -> Result<Option<ListenAddress>, WordFault>
+    ensures { IfOk result (IsHttpPlaceOf (found_of matches.now)) }
+{
+    if let Some(path) = matches.get_str("http-socket") {
+        return Ok(Some(socket_at(alloc, path)?));
+    }
+    if matches.get_str("http").is_none() {
+        return Ok(None);
+    }
+    match port_of(matches, HTTP) {
+        Some(port) => Ok(Some(ListenAddress::Port(port))),
+        None => Err(WordFault::Number),
+    }
+}
+
 fn socket_at(alloc: Global, path: &str) -> Result<ListenAddress, WordFault>
     ensures { IfOk result (IsSocketAt path.now) }
 {
@@ -70,8 +90,8 @@ fn socket_at(alloc: Global, path: &str) -> Result<ListenAddress, WordFault>
     Ok(ListenAddress::Socket(String::from_str(alloc, path)?))
 }
 
-// Whether a socket may have this path: one line of text, short enough for a socket made beside it.
-fn is_path(path: &str) -> bool {
+/// Whether a socket may have this path: one line of text, short enough for a socket made beside it.
+pub(crate) fn is_path(path: &str) -> bool {
     !path.is_empty()
         && path.len() <= MAX_PATH
         && !path.bytes().any(|octet| octet.is_ascii_control())

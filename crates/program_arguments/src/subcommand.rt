@@ -64,8 +64,13 @@ pub struct ShiftOptions {
     pub tls_by: Option<SocketAddr>,
     /// The contact that requests name after the agent.
     pub contact: Contact,
+    /// For how many seconds, from 60 to 86,400, a network fault keeps a site closed; without them for its
+    /// answer's life.
+    pub retry_closed: Option<u64>,
     pub told: ShiftOutput,
     pub bad_jobs: BadJobs,
+    /// The pipe, if any: the shift ends early once no process holds it open for writing.
+    pub until: Option<String>,
     /// The journal, if any: the gate's history is written there before it is told.
     pub journal: Option<JournalOptions>,
 }
@@ -86,6 +91,41 @@ pub enum ListenAddress {
     Port(u16),
     /// At a socket file of this path.
     Socket(String),
+}
+
+/// How a server serves HTTP clients.
+#[derive(Drop)]
+pub struct HttpOptions {
+    /// Where they connect.
+    pub place: ListenAddress,
+    /// How many connections they have at a time, from 1 to 10,000.
+    pub connections: u64,
+    /// How many threads fetch pages for them, from 1 to 1,024.
+    pub fetchers: u64,
+    /// How many seconds lie at least between the begins of two of their visits of one site, at most 600.
+    pub delay: u64,
+    /// Whether a site's own word on when to come again counts.
+    pub retry_after: RetryAfter,
+    /// What becomes of a client's conditions and preferences.
+    pub fields: ClientFields,
+}
+
+/// Whether If-None-Match, If-Modified-Since, Accept and Accept-Language of a client go to the site.
+#[derive(Clone, Copy, Debug, PartialEq, Eq)]
+pub enum ClientFields {
+    /// They do.
+    Forwarded,
+    /// Each request to a site is the same.
+    Dropped,
+}
+
+/// Whether a site's Retry-After counts: the one of a response with status 429 or 503.
+#[derive(Clone, Copy, Debug, PartialEq, Eq)]
+pub enum RetryAfter {
+    /// The site is left alone for that time.
+    Heeded,
+    /// It is told to the client alone.
+    Ignored,
 }
 
 /// The folder of a gate's journal, when it is synced, and its room.
@@ -123,6 +163,8 @@ pub struct ServeOptions {
     pub place: ListenAddress,
     /// Where overseers connect, if they have a place of their own.
     pub seal_place: Option<ListenAddress>,
+    /// How HTTP clients are served, if they are.
+    pub http: Option<HttpOptions>,
     /// How many clients are served at once.
     pub workers: u64,
     /// How many connections are accepted in all.
@@ -139,6 +181,9 @@ pub struct ServeOptions {
     pub tls_by: Option<SocketAddr>,
     /// The contact that requests name after the agent.
     pub contact: Contact,
+    /// For how many seconds, from 60 to 86,400, a network fault keeps a site closed; without them for its
+    /// answer's life.
+    pub retry_closed: Option<u64>,
     /// How many octets of robots texts are kept together, if that is bounded.
     pub texts: Option<u64>,
     /// How many octets of a page are read at most, from 1 to 67,108,864.

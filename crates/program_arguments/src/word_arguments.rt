@@ -53,7 +53,7 @@ pub(crate) const HTTPS: WordArgument = WordArgument {
     name: "https",
     form: WordForm::Flag,
     values: &[],
-    about: "Reads https URLs too",
+    about: "Accept https URLs too",
     conflicts: &[],
     needs: &[],
 };
@@ -63,7 +63,7 @@ pub(crate) const HTTPS_PAGES: WordArgument = WordArgument {
     name: "https",
     form: WordForm::Flag,
     values: &[],
-    about: "Takes lines that name https pages too",
+    about: "Accept lines that name https pages too",
     conflicts: &[],
     needs: &[],
 };
@@ -73,7 +73,7 @@ pub(crate) const EXPORT: WordArgument = WordArgument {
     name: "export",
     form: WordForm::Flag,
     values: &[],
-    about: "Writes the history at the end, and no replies",
+    about: "Write the history at the end instead of replies",
     conflicts: &[],
     needs: &[],
 };
@@ -83,7 +83,7 @@ pub(crate) const EXPORT_OF_SHIFT: WordArgument = WordArgument {
     name: "export",
     form: WordForm::Flag,
     values: &[],
-    about: "Writes the history at the end, and no outcomes",
+    about: "Write the history at the end instead of the report",
     conflicts: &[],
     needs: &[],
 };
@@ -93,7 +93,7 @@ pub(crate) const TSV: WordArgument = WordArgument {
     name: "tsv",
     form: WordForm::Flag,
     values: &[],
-    about: "Writes a table of the hops, each as soon as it has ended",
+    about: "Write a table with a row for each hop, as soon as it ends",
     conflicts: &["export"],
     needs: &[],
 };
@@ -103,7 +103,17 @@ pub(crate) const SKIP: WordArgument = WordArgument {
     name: "skip",
     form: WordForm::Flag,
     values: &[],
-    about: "Tells lines that are no jobs on standard error, and does the others",
+    about: "Report invalid lines on standard error, and do the other jobs",
+    conflicts: &[],
+    needs: &[],
+};
+
+/// The pipe whose end ends a shift early.
+pub(crate) const UNTIL: WordArgument = WordArgument {
+    name: "until",
+    form: WordForm::Text,
+    values: &["PIPE"],
+    about: "End early, and report what is done, once no process holds this pipe open for writing",
     conflicts: &[],
     needs: &[],
 };
@@ -113,7 +123,7 @@ pub(crate) const PUBLIC: WordArgument = WordArgument {
     name: "public",
     form: WordForm::Flag,
     values: &[],
-    about: "Connects to addresses of the public internet alone",
+    about: "Connect only to addresses of the public internet",
     conflicts: &[],
     needs: &[],
 };
@@ -123,7 +133,7 @@ pub(crate) const NOT_TO: WordArgument = WordArgument {
     name: "not-to",
     form: WordForm::Texts,
     values: &["ADDRESS/BITS"],
-    about: "Connects to no address that begins with so many bits of this one; may be there again and again",
+    about: "Connect to no address of this network; may be repeated",
     conflicts: &[],
     needs: &[],
 };
@@ -133,7 +143,7 @@ pub(crate) const TLS_BY: WordArgument = WordArgument {
     name: "tls-by",
     form: WordForm::Text,
     values: &["ADDRESS:PORT"],
-    about: "Reads https URLs too, by the TLS program that listens at this address of the loopback",
+    about: "Accept https URLs too; the TLS program at this loopback address makes their connections",
     conflicts: &[],
     needs: &[],
 };
@@ -143,7 +153,7 @@ pub(crate) const CONTACT: WordArgument = WordArgument {
     name: "contact",
     form: WordForm::Text,
     values: &["TEXT"],
-    about: "Tells sites whom to write to: User-Agent is the product token and (TEXT)",
+    about: "Contact for site owners: User-Agent becomes the product token and (TEXT)",
     conflicts: &[],
     needs: &[],
 };
@@ -153,7 +163,7 @@ pub(crate) const JOURNAL: WordArgument = WordArgument {
     name: "journal",
     form: WordForm::Text,
     values: &["FOLDER"],
-    about: "Writes the history to files of this folder before anything of it is told, and goes on where they end",
+    about: "Keep the history in files of this folder, written before each reply, and continue from them",
     conflicts: &[],
     needs: &[],
 };
@@ -169,7 +179,7 @@ pub(crate) const JOURNAL_SYNC: WordArgument = WordArgument {
     name: "journal-sync",
     form: WordForm::Text,
     values: &["WHEN"],
-    about: "When that outlives the machine too: always before it is told, second by second, or never; always, where it is left out",
+    about: "When the journal is synced to disk: always (before each reply; the default), second (once a second) or never",
     conflicts: &[],
     needs: &["journal"],
 };
@@ -179,7 +189,7 @@ pub(crate) const SOCKET: WordArgument = WordArgument {
     name: "socket",
     form: WordForm::Text,
     values: &["PATH"],
-    about: "Socket to listen at in place of a port, a file that its owner alone can open",
+    about: "Unix socket to listen on instead of a port; only its owner can connect",
     conflicts: &["port", "seal-port"],
     needs: &[],
 };
@@ -189,9 +199,39 @@ pub(crate) const SEAL_SOCKET: WordArgument = WordArgument {
     name: "seal-socket",
     form: WordForm::Text,
     values: &["PATH"],
-    about: "Socket for SEAL, INFO, WHY, STATE and QUIT alone, beside the clients, a file that its owner alone can open",
+    about: "Another Unix socket, only for SEAL, INFO, WHY, STATE and QUIT",
     conflicts: &["port", "seal-port"],
     needs: &["socket"],
+};
+
+/// The socket at which a server listens for HTTP clients.
+pub(crate) const HTTP_SOCKET: WordArgument = WordArgument {
+    name: "http-socket",
+    form: WordForm::Text,
+    values: &["PATH"],
+    about: "Unix socket for HTTP clients instead of a port; only its owner can connect",
+    conflicts: &["http"],
+    needs: &[],
+};
+
+/// Whether a site's word on when to come again counts.
+pub(crate) const HEED_RETRY_AFTER: WordArgument = WordArgument {
+    name: "heed-retry-after",
+    form: WordForm::Flag,
+    values: &[],
+    about: "Send a site no request of an HTTP client until the time of its Retry-After, up to an hour",
+    conflicts: &[],
+    needs: &[],
+};
+
+/// Whether fields of a client's request go to the site.
+pub(crate) const FORWARD: WordArgument = WordArgument {
+    name: "forward",
+    form: WordForm::Flag,
+    values: &[],
+    about: "Send If-None-Match, If-Modified-Since, Accept and Accept-Language of HTTP clients to the site",
+    conflicts: &[],
+    needs: &[],
 };
 
 /// Whether a server's connections have no end.
@@ -199,7 +239,7 @@ pub(crate) const ENDLESS: WordArgument = WordArgument {
     name: "endless",
     form: WordForm::Flag,
     values: &[],
-    about: "Takes connections without end, until the process is ended",
+    about: "Accept connections until the process is killed",
     conflicts: &["connections"],
     needs: &[],
 };
@@ -209,7 +249,7 @@ pub(crate) const TOKEN: WordArgument = WordArgument {
     name: "token",
     form: WordForm::Word,
     values: &["TOKEN"],
-    about: "Product token of the crawler: 1 to 64 letters, - and _",
+    about: "Product token of the crawler: 1 to 64 letters, `-` and `_`",
     conflicts: &[],
     needs: &[],
 };
@@ -219,7 +259,7 @@ pub(crate) const URL: WordArgument = WordArgument {
     name: "url",
     form: WordForm::Words,
     values: &["URL"],
-    about: "URLs, or paths that begin with /; - alone reads them from the input",
+    about: "URLs, or paths that begin with `/`; a single `-` reads them from standard input",
     conflicts: &[],
     needs: &[],
 };
@@ -229,7 +269,7 @@ pub(crate) const ROBOTS: WordArgument = WordArgument {
     name: "robots",
     form: WordForm::Text,
     values: &["FILE"],
-    about: "Reads the robots.txt from this file, and not from the input",
+    about: "Read the robots.txt from this file instead of standard input",
     conflicts: &[],
     needs: &[],
 };
@@ -239,7 +279,7 @@ pub(crate) const EXPLAIN: WordArgument = WordArgument {
     name: "explain",
     form: WordForm::Flag,
     values: &[],
-    about: "Writes before each answer the lines that it comes from, and why the one that decides does",
+    about: "Write before each answer the lines that apply, and why one of them decides",
     conflicts: &[],
     needs: &[],
 };
@@ -249,7 +289,7 @@ pub(crate) const NOTES: WordArgument = WordArgument {
     name: "notes",
     form: WordForm::Flag,
     values: &[],
-    about: "Tells on standard error what in the robots.txt may surprise",
+    about: "Report what in the robots.txt may surprise its author, on standard error",
     conflicts: &[],
     needs: &[],
 };

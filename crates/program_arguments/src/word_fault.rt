@@ -10,6 +10,8 @@ pub(crate) enum WordFault {
     Number,
     /// A path that no socket can have.
     Path,
+    /// An option for HTTP clients, of whom there are none.
+    NoHttp,
     /// A text that can't be a comment in a request.
     Contact,
     /// A time of a sync that is none.
@@ -18,28 +20,34 @@ pub(crate) enum WordFault {
     TlsBy,
     /// No block of addresses.
     Block,
+    /// A token of `check` that is none.
+    Token,
     /// Out of memory.
     NoMemory,
 }
 
 impl WordFault {
-    /// What is told of it.
+    /// What would be taken.
     pub(crate) fn reason(self) -> &'static str {
         match self {
-            WordFault::Number => "a number is written in digits alone, without a sign",
+            WordFault::Number => "it must be written with digits only, without a sign",
             WordFault::Path => {
-                "the path of --socket or --seal-socket has 1 to 96 octets, and no control characters"
+                "the path of a socket must have 1 to 96 bytes and no control characters"
             },
-            WordFault::Contact => {
-                "--contact has 1 to 256 characters of ASCII, and no parenthesis or backslash"
+            WordFault::NoHttp => {
+                "--http-connections, --fetchers, --delay, --heed-retry-after and --forward need --http or --http-socket"
             }
-            WordFault::Sync => "--journal-sync is always, second or never",
+            WordFault::Contact => {
+                "it must have 1 to 256 ASCII characters, and no parenthesis or backslash"
+            }
+            WordFault::Sync => "it must be always, second or never",
             WordFault::TlsBy => {
-                "--tls-by names an address of this machine and a port, as 127.0.0.1:3131 or [::1]:3131"
+                "it must be a loopback address and a port, such as 127.0.0.1:3131 or [::1]:3131"
             }
             WordFault::Block => {
-                "--not-to names an address and how many of its first bits count, as 192.0.2.0/24 or 2001:db8::/32"
+                "it must be an address and the number of its first bits, such as 192.0.2.0/24 or 2001:db8::/32"
             }
+            WordFault::Token => "a product token has 1 to 64 letters, - and _",
             WordFault::NoMemory => "out of memory",
         }
     }

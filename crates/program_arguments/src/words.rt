@@ -4,15 +4,17 @@ ghost use Rattle.std.specs.Prelude.{IfOk, IfSome, codes};
 ghost use Rattle.clap.specs.Words.{found_of};
 ghost use Rattle.gate_core.specs.Limits.{AreLimits};
 ghost use Rattle.program_arguments.specs.Numbers.{IsNumberOf};
-ghost use Rattle.program_arguments.specs.Options.{AreBadJobsOf, AreLimitsOf, AreNotesOf, AreSchemesOf, IsChosen, IsInRange, IsSetBy};
+ghost use Rattle.program_arguments.specs.Options.{AreBadJobsOf, AreLimitsOf, AreNotesOf, AreSchemesOf, IsChosen, IsInRange, IsPipeOf, IsSetBy};
 
 use crate::arguments::{SUBCOMMANDS, SubcommandArguments, texts};
 use crate::checked::check_of;
 use crate::command::program;
 use crate::fetching::fetching_of;
+use crate::http::http_of;
 use crate::number_options::GENERATION;
 use crate::numbers::{limits_of, number_of, serve_numbers_of, shift_numbers_of};
 use crate::places::places_of;
+use crate::refusal::{has_sign, refusal_of};
 use crate::subcommand::{
     BadJobs, Notes, ReplayOptions, ServeOptions, ShiftOptions, ShiftOutput, Subcommand,
 };
@@ -28,7 +30,7 @@ use std::alloc::{AllocError, Global};
 pub(crate) enum Chosen {
     Taken(Subcommand),
     /// Refused for this reason, though `clap` takes them.
-    Refused(&'static str),
+    Refused(WordFault),
 }
 
 /// Reads the program's arguments, the first of which is its own name. The error is `clap`'s answer: its
@@ -62,7 +64,10 @@ fn read_words<'a>(
 {
     match chosen_by(alloc, program, words)? {
         Chosen::Taken(subcommand) => Ok(subcommand),
-        Chosen::Refused(reason) => Err(program.error(ErrorKind::ValueValidation, reason)?),
+        Chosen::Refused(fault) => {
+            let said = refusal_of(alloc, words, fault)?;
+            Err(program.error(ErrorKind::ValueValidation, said.as_str())?)
+        }
     }
 }
 
@@ -97,33 +102,8 @@ fn choice_of(read: Result<Subcommand, WordFault>) -> Result<Chosen, AllocError>
     match read {
         Ok(subcommand) => Ok(Chosen::Taken(subcommand)),
         Err(WordFault::NoMemory) => Err(AllocError),
-        Err(fault) => Ok(Chosen::Refused(fault.reason())),
+        Err(fault) => Ok(Chosen::Refused(fault)),
     }
-}
-
-// The options whose value is no number.
-const TEXT_OPTIONS: [&str; 7] = [
-    "--contact",
-    "--journal",
-    "--journal-sync",
-    "--not-to",
-    "--seal-socket",
-    "--socket",
-    "--tls-by",
-];
-
-// Whether an argument, or its part after `=`, begins with a plus sign, but for a text. (Rust reads `+5` as a
-// number.)
-fn has_sign(words: &[&str]) -> bool {
-    let mut before = "";
-    for word in words {
-        let (name, value) = word.split_once('=').unwrap_or((before, *word));
-        if value.starts_with('+') && !TEXT_OPTIONS.contains(&name) {
-            return true;
-        }
-        before = *word;
-    }
-    false
 }
 
 // One of the subcommands that only read and write. `clap` has refused numbers out of range.
@@ -218,8 +198,10 @@ fn shift_of(alloc: Global, matches: &ArgMatches<'_>) -> Result<Subcommand, WordF
         not_to: fetching.not_to,
         tls_by: fetching.tls_by,
         contact: fetching.contact,
+        retry_closed: fetching.retry_closed,
         told: told_by(matches),
         bad_jobs: bad_jobs_of(matches),
+        until: until_of(alloc, matches)?,
         journal: fetching.journal,
     }))
 }
@@ -232,10 +214,12 @@ fn serve_of(alloc: Global, matches: &ArgMatches<'_>) -> Result<Subcommand, WordF
         return Err(WordFault::Number);
     };
     let places = places_of(alloc, matches)?;
+    let http = http_of(matches, places.http, numbers.http, numbers.workers)?;
     let fetching = fetching_of(alloc, matches)?;
     Ok(Subcommand::Serve(ServeOptions {
         place: places.clients,
         seal_place: places.overseers,
+        http,
         workers: numbers.workers,
         connections: numbers.connections,
         limits: numbers.limits,
@@ -246,6 +230,7 @@ fn serve_of(alloc: Global, matches: &ArgMatches<'_>) -> Result<Subcommand, WordF
         not_to: fetching.not_to,
         tls_by: fetching.tls_by,
         contact: fetching.contact,
+        retry_closed: fetching.retry_closed,
         patience: numbers.clients.patience,
         ahead: numbers.clients.ahead,
         client_permits: numbers.clients.client_permits,
@@ -262,6 +247,15 @@ fn bad_jobs_of(matches: &ArgMatches<'_>) -> BadJobs
         BadJobs::Skip
     } else {
         BadJobs::End
+    }
+}
+
+fn until_of(alloc: Global, matches: &ArgMatches<'_>) -> Result<Option<String>, AllocError>
+    ensures { IfOk result (IsPipeOf (found_of matches.now)) }
+{
+    match matches.get_str("until") {
+        Some(path) => Ok(Some(String::from_str(alloc, path)?)),
+        None => Ok(None),
     }
 }
 

@@ -32,6 +32,7 @@ exit_status endings.Device = 3
 exit_status (endings.ClosedStream stream) = 3
 exit_status endings.ToldDevice = 3
 exit_status (endings.NoTlsProgram at) = 3
+exit_status endings.EndedEarly = 1
 exit_status endings.NoJournal = 3
 
 -- nobody listens at the address of the program that opens TLS
@@ -71,6 +72,7 @@ message_of endings.Device = Some (codes "device")
 message_of (endings.ClosedStream stream) = Some (closed_text stream)
 message_of endings.ToldDevice = None
 message_of (endings.NoTlsProgram at) = Some (no_tls_text at)
+message_of endings.EndedEarly = None
 message_of endings.NoJournal = None
 
 -- the program's ending by the result of its session

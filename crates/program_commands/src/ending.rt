@@ -40,6 +40,8 @@ pub enum Ending {
     ToldDevice,
     /// Nobody listens at the address of the program that opens TLS.
     NoTlsProgram(SocketAddr),
+    /// A shift ended early, with jobs left; these were printed already.
+    EndedEarly,
     /// The folder can't be a journal's, or the journal failed; printed already.
     NoJournal,
 }
@@ -98,6 +100,7 @@ impl Ending {
         match self {
             Ending::Done => 0,
             Ending::LongLine | Ending::ManyLines | Ending::BadLine | Ending::DeniedUrl => 1,
+            Ending::EndedEarly => 1,
             Ending::BadUrl | Ending::NoUrls | Ending::BadWords => 2,
             Ending::BadFile | Ending::NoMemory | Ending::Device | Ending::NoJournal => 3,
             Ending::ClosedStream(_) | Ending::ToldDevice | Ending::NoTlsProgram(_) => 3,
@@ -116,6 +119,7 @@ impl Ending {
             | Ending::BadFile
             | Ending::ToldDevice
             | Ending::BadWords
+            | Ending::EndedEarly
             | Ending::NoJournal => None,
             Ending::NoUrls => Some(Message::Words("no URL in the input")),
             Ending::LongLine => Some(Message::Words("line too long")),

@@ -8,11 +8,31 @@ use std::io;
 /// Prints why a folder can't be a journal's; the program ends.
 pub fn tell_bad_folder(rt: &HostRuntime, folder: &str, fault: FolderFault) -> Ending {
     match fault {
-        FolderFault::OtherFiles => tell(rt, folder, "has files that are not a journal's"),
+        FolderFault::Altered(path) => tell(
+            rt,
+            path.as_str(),
+            "has the name of a journal's file and more: restore the file, as with gunzip, or move this one away",
+        ),
         FolderFault::NotRegular(path) => tell(rt, path.as_str(), "is no regular file"),
         FolderFault::InUse => tell(rt, folder, "is in use by another process"),
         FolderFault::Device(cause) => tell_cause(rt, Some(cause)),
         FolderFault::NoMemory => Ending::NoMemory,
+    }
+}
+
+/// Prints which names of a journal's folder are not a journal's. The program goes on, and leaves them alone.
+pub fn tell_left_alone(rt: &HostRuntime, folder: &str, names: &[String], unread: u64) {
+    for name in names {
+        // If standard error fails, the journal stays.
+        let _ = eprintln!(rt;
+            "crawlgate: journal: {folder:?} has {:?}, which is not a journal's and is left alone",
+            name.as_str()
+        );
+    }
+    if unread > 0 {
+        let _ = eprintln!(rt;
+            "crawlgate: journal: {folder:?} has names that are not UTF-8 and are left alone: {unread}"
+        );
     }
 }
 
@@ -65,6 +85,15 @@ pub fn tell_full_journal(rt: &HostRuntime, file: &str) -> Ending {
 /// Prints that a journal's file has permits of more slots than the gate may have; the program ends.
 pub fn tell_few_slots(rt: &HostRuntime, file: &str) -> Ending {
     tell(rt, file, "has permits of more slots than --slots allows")
+}
+
+/// Prints that the disk has no room for what ends a journal's last file; the program ends.
+pub fn tell_no_room_to_end(rt: &HostRuntime, folder: &str, octets: u64) -> Ending {
+    // If standard error fails too, the status stays.
+    let _ = eprintln!(rt;
+        "crawlgate: journal: {folder:?} has no room for the lines that end its last file, which need {octets} octets"
+    );
+    Ending::NoJournal
 }
 
 /// Prints why a journal's file can't be read; the program ends.

@@ -24,7 +24,8 @@ pub use books::new_book;
 pub use ending::Ending;
 pub use journals::{
     tell_bad_folder, tell_bad_journal, tell_begins_alone, tell_clock_set_back, tell_failed_journal,
-    tell_few_slots, tell_full_journal, tell_short_journal, tell_torn_line, tell_unread_journal,
+    tell_few_slots, tell_full_journal, tell_left_alone, tell_no_room_to_end, tell_short_journal,
+    tell_torn_line, tell_unread_journal,
 };
 pub use message::Message;
 pub use next::Next;
@@ -32,6 +33,7 @@ pub use reasoned::Reasoned;
 pub use server_line::ServerLine;
 pub use streams::Stream;
 pub use telling::{
-    tell_bad_line, tell_ending, tell_failed, tell_full_log, tell_listening, tell_listening_at,
-    tell_no_place, tell_sealing, tell_sealing_at, tell_served,
+    tell_bad_line, tell_bad_pipe, tell_ending, tell_failed, tell_full_log, tell_http, tell_http_at,
+    tell_listening, tell_listening_at, tell_no_pipe, tell_no_place, tell_sealing, tell_sealing_at,
+    tell_served, tell_usual_end,
 };

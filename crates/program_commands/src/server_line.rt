@@ -17,6 +17,10 @@ pub enum ServerLine<'a> {
     Seals { port: u16 },
     /// Overseers may connect at the socket of this path.
     SealsAt { path: &'a str },
+    /// Clients of HTTP may connect at this loopback port.
+    ServesHttp { port: u16 },
+    /// Clients of HTTP may connect at the socket of this path.
+    ServesHttpAt { path: &'a str },
     /// The connections accepted, and the entries of the history.
     Served { connections: u64, events: u64 },
 }
@@ -39,6 +43,12 @@ impl<'a> ServerLine<'a> {
                 Piece::Text("\n"),
             ]),
             ServerLine::SealsAt { path } => Pieces::two_words("SEAL", Piece::Text(path)),
+            ServerLine::ServesHttp { port } => Pieces::of(&[
+                Piece::Text("HTTP 127.0.0.1:"),
+                Piece::Number(u64::from(port)),
+                Piece::Text("\n"),
+            ]),
+            ServerLine::ServesHttpAt { path } => Pieces::two_words("HTTP", Piece::Text(path)),
             ServerLine::Served {
                 connections,
                 events,

@@ -50,6 +50,16 @@ pub fn tell_sealing_at(rt: &HostRuntime, path: &str) -> Ending {
     tell(rt, ServerLine::SealsAt { path }.pieces(), Ending::Done)
 }
 
+/// Prints the port for clients of HTTP; returns the ending.
+pub fn tell_http(rt: &HostRuntime, port: u16) -> Ending {
+    tell(rt, ServerLine::ServesHttp { port }.pieces(), Ending::Done)
+}
+
+/// Prints the path of the socket for clients of HTTP; returns the ending.
+pub fn tell_http_at(rt: &HostRuntime, path: &str) -> Ending {
+    tell(rt, ServerLine::ServesHttpAt { path }.pieces(), Ending::Done)
+}
+
 /// Prints why nothing can listen at a place; the program ends.
 pub fn tell_no_place(rt: &HostRuntime, place: &ListenAddress, error: &io::Error) -> Ending {
     let reason = error.kind();
@@ -61,6 +71,24 @@ pub fn tell_no_place(rt: &HostRuntime, place: &ListenAddress, error: &io::Error)
         ListenAddress::Port(port) => eprintln!(rt; "crawlgate: device: port {port}: {reason}"),
         ListenAddress::Socket(path) => eprintln!(rt; "crawlgate: device: socket {path}: {reason}"),
     };
+    Ending::ToldDevice
+}
+
+/// Prints why a pipe can't be read to its end; returns the ending.
+pub fn tell_bad_pipe(rt: &HostRuntime, path: &str, reason: io::ErrorKind) -> Ending {
+    // If standard error fails too, the status stays.
+    let _ = if is_named(reason) {
+        eprintln!(rt; "crawlgate: device: pipe {path:?}: {reason}")
+    } else {
+        eprintln!(rt; "crawlgate: device: pipe {path:?}")
+    };
+    Ending::ToldDevice
+}
+
+/// Prints that what should be a pipe is a regular file or a folder; the program ends.
+pub fn tell_no_pipe(rt: &HostRuntime, path: &str) -> Ending {
+    // If standard error fails too, the status stays.
+    let _ = eprintln!(rt; "crawlgate: device: {path:?} is no pipe");
     Ending::ToldDevice
 }
 
@@ -100,6 +128,14 @@ pub fn tell_served(rt: &HostRuntime, connections: u64, events: u64) -> Ending {
 /// Prints that the history of a server's gate is full.
 pub fn tell_full_log(rt: &HostRuntime) {
     let _ = eprintln!(rt; "crawlgate: the log is full");
+}
+
+/// Prints after how many connections a server ends, which nobody has chosen.
+pub fn tell_usual_end(rt: &HostRuntime, connections: u64) {
+    // If standard error fails, the server still serves.
+    let _ = eprintln!(rt;
+        "crawlgate: serve: ends after {connections} connections; with --endless it does not end by itself"
+    );
 }
 
 // Writes a line to standard output, and returns the program's ending.

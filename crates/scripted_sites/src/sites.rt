@@ -4,7 +4,7 @@ ghost use Rattle.std.specs.Option.{option_map};
 ghost use Rattle.scripted_sites.specs.Scripted.{IsScripted, scripted_response};
 
 use counted_io::Counted;
-use fetchers::{Fetcher, PAGE_LIMIT, PageLeave, RobotsLeave};
+use fetchers::{FULL_CLOSURE, Fetcher, PAGE_LIMIT, PageLeave, RobotsLeave};
 use http_client::Failure;
 use http_wire::{ForwardedFields, HttpReply, WireFault, read_response};
 use path_normal::{PageUrl, Schemes};
@@ -56,11 +56,12 @@ impl<'a> ScriptedSites<'a> {
 
 impl<'a> Fetcher for ScriptedSites<'a> {
     ghost use Rattle.scripted_sites.specs.Scripted.{GivesScripted};
-    ghost use Rattle.fetchers.specs.Limits.{page_limit};
+    ghost use Rattle.fetchers.specs.Limits.{full_closure, page_limit};
     ghost use Rattle.path_normal.specs.declared.schemes.Schemes.TheVariants.{Http};
 
     ghost gives = { λ sites. record {
       page_limit = page_limit;
+      closed_for = full_closure;
       holds = GivesScripted sites.pages.now;
     } };
 
@@ -73,6 +74,10 @@ impl<'a> Fetcher for ScriptedSites<'a> {
 
     fn page_limit(&self) -> usize {
         PAGE_LIMIT
+    }
+
+    fn closed_for(&self) -> u64 {
+        FULL_CLOSURE
     }
 
     fn load_page(

@@ -93,6 +93,12 @@ impl Doors {
         }
     }
 
+    /// Whether no more than one further visit of a site may be under way, or visits are kept apart.
+    pub(crate) fn has_last_place(&self, site: &Authority) -> bool {
+        let door = door_at(&self.table, self.latest, site.text());
+        self.manners.delay > 0 || self.manners.most <= door.under_way.saturating_add(1)
+    }
+
     /// How many sites take memory.
     pub fn kept_count(&self) -> usize
         ensures count { result ≡ kept_count self.now }

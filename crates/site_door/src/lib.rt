@@ -11,6 +11,7 @@ mod manners;
 mod site_doors;
 mod table;
 mod visit;
+mod waiting;
 
 pub use admission::{Admission, NoDoor};
 pub use asked_pause::{MOST_PAUSE, retry_after};
@@ -19,3 +20,4 @@ pub use manners::{AskedPauses, Manners};
 pub use site_doors::SiteDoors;
 pub use table::MOST_SITES;
 pub use visit::SiteVisit;
+pub use waiting::Visitor;

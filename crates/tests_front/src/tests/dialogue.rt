@@ -4,12 +4,14 @@ use super::demand;
 use super::script::{Numbers, Scene, Script, octets_of};
 use http_front::{Forwarding, Front, SiteDoor, front_config};
 use http_server::Connection;
+use http_turns::Asker;
 use keepers::Keeper;
 use scripted_sites::FixedClock;
 use std::alloc::Global;
 use std::hash::RandomState;
 use std::random::RandomSource;
 use std::test::Fail;
+use turns::Moment;
 
 /// A name, what each visit comes to, what is sent, the visits, and what is answered.
 pub(super) type Row = (
@@ -79,6 +81,10 @@ pub(super) fn talk<R: RandomSource, K: Keeper, D: SiteDoor>(
         keeper,
         door,
         forwarding: Forwarding::Nothing,
+        asker: Asker {
+            place: 0,
+            until: Moment::NEVER,
+        },
         clock: &FixedClock(110),
         metrics: &Numbers,
         number: 0,

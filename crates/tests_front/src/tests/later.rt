@@ -4,6 +4,7 @@ use super::demand;
 use super::dialogue::talk;
 use super::script::{Scene, Script, octets_of};
 use http_front::SiteDoor;
+use http_turns::Asker;
 use http_wire::HttpReply;
 use path_normal::Authority;
 use std::alloc::Global;
@@ -189,7 +190,7 @@ impl SiteDoor for CountingDoor {
 
     ghost leaves = { λ _ _ _. Unit {0} };
 
-    fn enter(&self, site: &Authority) -> Option<UnderWay> {
+    fn enter(&self, site: &Authority, _asker: Asker) -> Option<UnderWay> {
         if site.text() == "a.example" {
             let _ = self.asked.fetch_add(1, Ordering::SeqCst);
         }

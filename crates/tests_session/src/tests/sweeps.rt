@@ -85,6 +85,7 @@ fn serve_two<'x, G: Gate + Send + Sync, R: Threads + Wait + time::Clock + Sync>(
         alloc,
         listener,
         overseers,
+        http: None,
         fetcher: &sites,
         clock: &clock,
         alarm: &Unheard,

@@ -2,7 +2,7 @@
 //! is fetched. RFC 9309, section 2.4.
 
 use crawl_job::Job;
-use fetchers::{Fetcher, PAGE_LIMIT, PageLeave, RobotsLeave};
+use fetchers::{FULL_CLOSURE, Fetcher, PAGE_LIMIT, PageLeave, RobotsLeave};
 use gate_core::Limits;
 use gate_history::Entry;
 use gate_lock::{Gate, GateLock, Mark};
@@ -24,13 +24,18 @@ use stream_waits::Deadline;
 // denied, started and finished.
 type Told = (char, u64);
 
-// A name, the seconds between two readings of the clock, which starts at 100, the entries of two jobs of one site,
-// and how often its robots.txt was fetched, which denies all from its second fetch on. A job reads the clock to look
-// for an answer, once more to bring one, to ask and to start.
-const ROWS: [(&str, u64, &[Told], u64); 3] = [
+// A row: what it shows; the seconds between two readings of the clock, which starts at 100; the status of the first
+// response to a fetch of the robots.txt, or none for a network fault; for how many seconds such a fault keeps the
+// site closed; the entries of two jobs of the site; and how often its robots.txt was fetched, which denies all from
+// its second fetch on. A job reads the clock to look for an answer, once more to bring one, to ask and to start.
+type Row = (&'static str, u64, Option<u16>, u64, &'static [Told], u64);
+
+const ROWS: [Row; 8] = [
     (
         "the clock stands",
         0,
+        Some(404),
+        60,
         &[
             ('B', 100),
             ('A', 100),
@@ -45,15 +50,17 @@ const ROWS: [(&str, u64, &[Told], u64); 3] = [
     ),
     (
         "an answer in force is not fetched anew",
-        10,
+        30,
+        Some(404),
+        60,
         &[
             ('B', 100),
-            ('A', 110),
-            ('G', 120),
-            ('S', 130),
+            ('A', 130),
+            ('G', 160),
+            ('S', 190),
             ('F', 0),
-            ('G', 150),
-            ('S', 160),
+            ('G', 250),
+            ('S', 280),
             ('F', 0),
         ],
         1,
@@ -61,6 +68,8 @@ const ROWS: [(&str, u64, &[Told], u64); 3] = [
     (
         "an answer older than a day is fetched anew",
         25_000,
+        Some(404),
+        FULL_CLOSURE,
         &[
             ('B', 100),
             ('A', 25_100),
@@ -70,6 +79,60 @@ const ROWS: [(&str, u64, &[Told], u64); 3] = [
             ('B', 100_100),
             ('A', 125_100),
             ('N', 150_100),
+        ],
+        2,
+    ),
+    (
+        "a site that a network fault closed is asked anew after its seconds",
+        20,
+        None,
+        60,
+        &[
+            ('B', 100),
+            ('A', 120),
+            ('N', 140),
+            ('B', 160),
+            ('A', 180),
+            ('N', 200),
+        ],
+        2,
+    ),
+    (
+        "a site that a network fault closed is not asked a second too early",
+        20,
+        None,
+        61,
+        &[('B', 100), ('A', 120), ('N', 140), ('N', 180)],
+        1,
+    ),
+    (
+        "a site that a status closed is not asked anew",
+        20,
+        Some(503),
+        60,
+        &[('B', 100), ('A', 120), ('N', 140), ('N', 180)],
+        1,
+    ),
+    (
+        "a site that a network fault closed stays closed for its answer's life",
+        28_800,
+        None,
+        FULL_CLOSURE,
+        &[('B', 100), ('A', 28_900), ('N', 57_700), ('N', 115_300)],
+        1,
+    ),
+    (
+        "a site that a network fault closed is asked anew past its answer's life",
+        28_801,
+        None,
+        FULL_CLOSURE,
+        &[
+            ('B', 100),
+            ('A', 28_901),
+            ('N', 57_702),
+            ('B', 86_503),
+            ('A', 115_304),
+            ('N', 144_105),
         ],
         2,
     ),
@@ -88,10 +151,13 @@ impl Clock for Stepping {
     }
 }
 
-// A site that has a robots.txt from its second fetch on, and counts the requests for it.
+// A site that has a robots.txt from its second fetch on, and counts the requests for it. Its first response has
+// this status, unless there is none for a network fault, which keeps the site closed for so many seconds.
 #[derive(Drop)]
 struct Changing {
     alloc: Global,
+    first: Option<u16>,
+    closed_for: u64,
     robots: AtomicU64,
 }
 
@@ -99,7 +165,11 @@ impl Fetcher for Changing {
     ghost use Rattle.fetchers.specs.Limits.{page_limit};
     ghost use Rattle.path_normal.specs.declared.schemes.Schemes.TheVariants.{Http};
 
-    ghost gives = { λ _. record { page_limit = page_limit; holds = λ _ _ _. Unit {0} } };
+    ghost gives = { λ site. record {
+      page_limit = page_limit;
+      closed_for = site.closed_for;
+      holds = λ _ _ _. Unit {0};
+    } };
 
     ghost follows = { λ _. Http };
 
@@ -109,6 +179,10 @@ impl Fetcher for Changing {
 
     fn page_limit(&self) -> usize {
         PAGE_LIMIT
+    }
+
+    fn closed_for(&self) -> u64 {
+        self.closed_for
     }
 
     fn load_page(
@@ -130,7 +204,10 @@ impl Fetcher for Changing {
     ) -> Result<HttpReply, WireFault> {
         leave.spend();
         if self.robots.fetch_add(1, Ordering::SeqCst) == 0 {
-            return Ok(reply(self.alloc, 404, Vec::new(self.alloc)));
+            return match self.first {
+                Some(status) => Ok(reply(self.alloc, status, Vec::new(self.alloc))),
+                None => Err(WireFault::Device),
+            };
         }
         match Vec::from_slice(self.alloc, b"User-agent: *\nDisallow: /\n") {
             Ok(body) => Ok(reply(self.alloc, 200, body)),
@@ -206,27 +283,24 @@ fn told(entry: &Entry) -> Told {
 
 #[test]
 fn jobs_by_a_clock_that_goes_on(rt: HostRuntime) -> Result<(), Fail> {
-    for (name, seconds, want, fetches) in &ROWS {
-        if !check(&rt, rt.alloc(), *seconds, want, *fetches)? {
-            return Err(Fail::new(name));
+    for row in &ROWS {
+        if !check(&rt, rt.alloc(), row)? {
+            return Err(Fail::new(row.0));
         }
     }
     Ok(())
 }
 
-fn check<R: Wait + RandomSource>(
-    rt: &R,
-    alloc: Global,
-    seconds: u64,
-    want: &[Told],
-    fetches: u64,
-) -> Result<bool, Fail> {
+fn check<R: Wait + RandomSource>(rt: &R, alloc: Global, row: &Row) -> Result<bool, Fail> {
+    let (_, seconds, first, closed_for, want, fetches) = *row;
     let clock = Stepping {
         next: AtomicU64::new(100),
         seconds,
     };
     let site = Changing {
         alloc,
+        first,
+        closed_for,
         robots: AtomicU64::new(0),
     };
     let holds = do_jobs(rt, alloc, &site, &clock, want)?;

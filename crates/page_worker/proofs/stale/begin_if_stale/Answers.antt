@@ -1,22 +1,43 @@
--- An answer of the page's authority is in force.
--- By the lemma `has_answer` the gate does not lack one.
-use Rattle.std.proofs.Common.{rules, ℕ, List, refl, subst}
+-- Whether a turn is due of the gate that is lent and of the page's authority.
+-- By the lemmas `none_due` and `some_due`.
+use Rattle.std.proofs.Common.{rules}
 use Rattle.path_normal.specs.PageText.{authority_of}
-use Rattle.gate_core.specs.Gate.{history}
-use Rattle.gate_core.specs.Replies.{moment_at}
-use Rattle.gate_core.specs.States.{IsState}
-use Rattle.page_worker.proofs.InForce.{has_answer}
+use Rattle.page_worker.proofs.InForce.{none_due, some_due}
 use Rattle.page_worker.proofs.stale.begin_if_stale.Goals as goal
 
-pub returns-in-Closed : goal.returns-in-Closed
-returns-in-Closed g c =
-    let held = c.args.held.now in
-    let P : List ℕ → Type 0 = λ authority. IsState (history held) authority (moment_at held c.args.moment) c.state_in-state.result in
-    record {
-      begins = (
-        has_answer held (authority_of c.args.url.now) c.args.moment c.state_in-state.result (subst P c.authority.ensures.value c.state_in-state.ensures.0) c.in-Closed.is,
-        search rules,
-        search rules,
-      );
-      counts = refl;
-    }
+pub returns-then-not-is_due-clause-begins : goal.returns-then-not-is_due-clause-begins
+returns-then-not-is_due-clause-begins g c = (
+  none_due c.args.closed_for c.args.held.now c.state_in-state.new.held c.book.result.now (authority_of c.args.url.now)
+      c.authority-2.result.now c.args.moment c.is_due.result c.is_due.ensures c.if-not-is_due.true c.book.ensures.value
+      c.state_in-state.ensures.1 c.authority-2.ensures.value,
+  search rules,
+  search rules,
+)
+
+pub returns-then-state-clause-begins : goal.returns-then-state-clause-begins
+returns-then-state-clause-begins g c =
+    let due = some_due c.args.closed_for c.args.held.now c.state_in-state.new.held c.book.result.now (authority_of c.args.url.now)
+    c.authority-2.result.now c.args.moment c.is_due.result c.is_due.ensures c.if-not-is_due.false c.book.ensures.value
+    c.state_in-state.ensures.1 c.authority-2.ensures.value in
+    (due, search rules, search rules)
+
+pub returns-in_default-clause-begins : goal.returns-in_default-clause-begins
+returns-in_default-clause-begins g c =
+    let due = some_due c.args.closed_for c.args.held.now c.state_in-state.new.held c.book.result.now (authority_of c.args.url.now)
+    c.authority-2.result.now c.args.moment c.is_due.result c.is_due.ensures c.if-not-is_due.false c.book.ensures.value
+    c.state_in-state.ensures.1 c.authority-2.ensures.value in
+    (due, search rules, search rules)
+
+pub returns-in_err-begin_within-clause-begins : goal.returns-in_err-begin_within-clause-begins
+returns-in_err-begin_within-clause-begins g c =
+    let due = some_due c.args.closed_for c.args.held.now c.state_in-state.new.held c.book.result.now (authority_of c.args.url.now)
+    c.authority-2.result.now c.args.moment c.is_due.result c.is_due.ensures c.if-not-is_due.false c.book.ensures.value
+    c.state_in-state.ensures.1 c.authority-2.ensures.value in
+    search (rules, due)
+
+pub returns-clause-begins : goal.returns-clause-begins
+returns-clause-begins g c =
+    let due = some_due c.args.closed_for c.args.held.now c.state_in-state.new.held c.book.result.now (authority_of c.args.url.now)
+    c.authority-2.result.now c.args.moment c.is_due.result c.is_due.ensures c.if-not-is_due.false c.book.ensures.value
+    c.state_in-state.ensures.1 c.authority-2.ensures.value in
+    (due, search rules)

@@ -30,35 +30,35 @@ returns-in-Ok-Some-clause-finds g c =
 
 pub returns-in-Ok-None-clause-finds : goal.returns-in-Ok-None-clause-finds
 returns-in-Ok-None-clause-finds g c =
-    let P : Option Errand → Type 0 = λ may. BeginsSomewhere (authority_of c.args.url.now) c.now.result c.args.newcomers.now (Ok may)
+    let P : Option Errand → Type 0 = λ may. BeginsSomewhere (world_of (g.F.Fetcher.gives c.args.self.now.fetcher.now) (g.F.Fetcher.follows c.args.self.now.fetcher.now) (g.C.Clock.reads c.args.self.now.clock.now)) (authority_of c.args.url.now) c.now.result c.args.newcomers.now (Ok may)
     c.begin_stale.new.newcomers c.args.desk.now c.begin_stale.new.desk in
     in_force (world_of (g.F.Fetcher.gives c.args.self.now.fetcher.now) (g.F.Fetcher.follows c.args.self.now.fetcher.now) (g.C.Clock.reads c.args.self.now.clock.now)) (authority_of c.args.url.now) c.now.result c.args.newcomers.now c.begin_stale.new.newcomers c.args.desk.now
     c.begin_stale.new.desk c.now.ensures (subst P c.in-Ok-None.field-0-is c.in-Ok-None.ensures.step)
 
 pub returns-in-Err-LogFull-clause-finds : goal.returns-in-Err-LogFull-clause-finds
 returns-in-Err-LogFull-clause-finds g c =
-    let P : BeginRefusal → Type 0 = λ why. BeginsSomewhere (authority_of c.args.url.now) c.now.result c.args.newcomers.now (Err why)
+    let P : BeginRefusal → Type 0 = λ why. BeginsSomewhere (world_of (g.F.Fetcher.gives c.args.self.now.fetcher.now) (g.F.Fetcher.follows c.args.self.now.fetcher.now) (g.C.Clock.reads c.args.self.now.clock.now)) (authority_of c.args.url.now) c.now.result c.args.newcomers.now (Err why)
     c.begin_stale.new.newcomers c.args.desk.now c.begin_stale.new.desk in
     turn_refused (world_of (g.F.Fetcher.gives c.args.self.now.fetcher.now) (g.F.Fetcher.follows c.args.self.now.fetcher.now) (g.C.Clock.reads c.args.self.now.clock.now)) (authority_of c.args.url.now) c.now.result c.args.newcomers.now c.begin_stale.new.newcomers begin.LogFull refusals.LogFull
     c.args.desk.now c.begin_stale.new.desk (λ before told. told.1) c.now.ensures (subst P c.in-Err-LogFull.field-0-is c.in-Err-LogFull.ensures.step)
 
 pub returns-in-Err-AuthoritiesFull-clause-finds : goal.returns-in-Err-AuthoritiesFull-clause-finds
 returns-in-Err-AuthoritiesFull-clause-finds g c =
-    let P : BeginRefusal → Type 0 = λ why. BeginsSomewhere (authority_of c.args.url.now) c.now.result c.args.newcomers.now (Err why)
+    let P : BeginRefusal → Type 0 = λ why. BeginsSomewhere (world_of (g.F.Fetcher.gives c.args.self.now.fetcher.now) (g.F.Fetcher.follows c.args.self.now.fetcher.now) (g.C.Clock.reads c.args.self.now.clock.now)) (authority_of c.args.url.now) c.now.result c.args.newcomers.now (Err why)
     c.begin_stale.new.newcomers c.args.desk.now c.begin_stale.new.desk in
     turn_refused (world_of (g.F.Fetcher.gives c.args.self.now.fetcher.now) (g.F.Fetcher.follows c.args.self.now.fetcher.now) (g.C.Clock.reads c.args.self.now.clock.now)) (authority_of c.args.url.now) c.now.result c.args.newcomers.now c.begin_stale.new.newcomers begin.AuthoritiesFull refusals.AuthoritiesFull
     c.args.desk.now c.begin_stale.new.desk (λ before told. told.1) c.now.ensures (subst P c.in-Err-AuthoritiesFull.field-0-is c.in-Err-AuthoritiesFull.ensures.step)
 
 pub returns-in-Err-NoMemory-clause-finds : goal.returns-in-Err-NoMemory-clause-finds
 returns-in-Err-NoMemory-clause-finds g c =
-    let P : BeginRefusal → Type 0 = λ why. BeginsSomewhere (authority_of c.args.url.now) c.now.result c.args.newcomers.now (Err why)
+    let P : BeginRefusal → Type 0 = λ why. BeginsSomewhere (world_of (g.F.Fetcher.gives c.args.self.now.fetcher.now) (g.F.Fetcher.follows c.args.self.now.fetcher.now) (g.C.Clock.reads c.args.self.now.clock.now)) (authority_of c.args.url.now) c.now.result c.args.newcomers.now (Err why)
     c.begin_stale.new.newcomers c.args.desk.now c.begin_stale.new.desk in
     turn_refused (world_of (g.F.Fetcher.gives c.args.self.now.fetcher.now) (g.F.Fetcher.follows c.args.self.now.fetcher.now) (g.C.Clock.reads c.args.self.now.clock.now)) (authority_of c.args.url.now) c.now.result c.args.newcomers.now c.begin_stale.new.newcomers begin.NoMemory refusals.NoMemory
     c.args.desk.now c.begin_stale.new.desk (λ before told. tt) c.now.ensures (subst P c.in-Err-NoMemory.field-0-is c.in-Err-NoMemory.ensures.step)
 
 pub returns-in-Err-InFlight-clause-finds : goal.returns-in-Err-InFlight-clause-finds
 returns-in-Err-InFlight-clause-finds g c =
-    let P : BeginRefusal → Type 0 = λ why. BeginsSomewhere (authority_of c.args.url.now) c.now.result c.args.newcomers.now (Err why)
+    let P : BeginRefusal → Type 0 = λ why. BeginsSomewhere (world_of (g.F.Fetcher.gives c.args.self.now.fetcher.now) (g.F.Fetcher.follows c.args.self.now.fetcher.now) (g.C.Clock.reads c.args.self.now.clock.now)) (authority_of c.args.url.now) c.now.result c.args.newcomers.now (Err why)
     c.begin_stale.new.newcomers c.args.desk.now c.begin_stale.new.desk in
     in_flight (world_of (g.F.Fetcher.gives c.args.self.now.fetcher.now) (g.F.Fetcher.follows c.args.self.now.fetcher.now) (g.C.Clock.reads c.args.self.now.clock.now)) (authority_of c.args.url.now) c.now.result c.args.newcomers.now
     c.begin_stale.new.newcomers c.args.desk.now c.begin_stale.new.desk

@@ -1,0 +1,2 @@
+-- What contracts say of texts that are written in order.
+pub mod Order
