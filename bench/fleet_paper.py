@@ -6,7 +6,7 @@ from figures import figure
 
 # the crawl on paper: its pages, pages of a site, gates, fetchers of a gate, and seconds that a fetch takes on the web
 PAGES, OF_A_SITE, GATES, FETCHERS, SECONDS = 100_000_000, 10, 16, 64, 1
-# what a gate knows at most, and the entries of a file of its journal, of a page and of a robots.txt
+# what a gate knows at most, and the entries before a base of its journal, of a page and of a robots.txt
 KNOWN, FILE, OF_A_PAGE, OF_A_ROBOTS_FILE = 65_536, 500_000, 3, 2
 # octets of memory of an entry, by bench/memory
 ENTRY = 104
@@ -44,9 +44,9 @@ def paper_rows(terms):
     sites, hour = PAGES // OF_A_SITE, 3_600
     known = GATES * KNOWN / terms.fullest
     entries = PAGES * OF_A_PAGE + sites * OF_A_ROBOTS_FILE
-    files = entries / FILE
+    bases = entries / FILE
     written = (PAGES * terms.page + sites * terms.robots) / 1e9
-    bases = files * KNOWN * terms.base / 1e9
+    of_bases = bases * KNOWN * terms.base / 1e9
     count = f"{PAGES:,}"
     return [
         ["sites in a day", f"{GATES} x {KNOWN:,} / {terms.fullest:.3f}", f"{known:,.0f}"],
@@ -63,7 +63,7 @@ def paper_rows(terms):
          figure(PAGES * terms.front / 1e6 / hour)],
         ["journals, GB of entries", f"{count} x {figure(terms.page)} + {sites:,} x {figure(terms.robots)}",
          figure(written)],
-        ["journals, GB of bases", f"{files:,.0f} files x {KNOWN:,} x {figure(terms.base)}", figure(bases)],
+        ["journals, GB of bases", f"{bases:,.0f} bases x {KNOWN:,} x {figure(terms.base)}", figure(of_bases)],
         ["memory of a gate, MB", f"{KNOWN:,} x {figure(terms.memory)} + {FILE:,} x {ENTRY}",
          figure((KNOWN * terms.memory + FILE * ENTRY) / 1e6)],
         ["hours of audits side by side", f"{entries:,} / {figure(terms.audit)} / {hour}",

@@ -10,13 +10,15 @@ are those of lib/fixtures.py. One that is beyond a bound of time is tried again,
 import importlib.machinery
 import importlib.util
 import os
+import shutil
 import sys
 
 import pytest
 from _pytest.runner import runtestprotocol
 
 CHECKS = os.path.dirname(os.path.realpath(__file__))
-SCRIPTS = [f"{CHECKS}/{name}" for name in ("serve/run", "http/run", "crawls/run", "fleet/run", "examples", "scrapy")]
+NAMES = "serve/run", "http/run", "crawls/run", "fleet/run", "examples", "scrapy", "package"
+SCRIPTS = [f"{CHECKS}/{name}" for name in NAMES]
 ATTEMPTS = 3
 
 sys.dont_write_bytecode = True
@@ -28,6 +30,14 @@ from lib.program import BUILT  # noqa: E402
 from lib.server import Server  # noqa: E402
 
 site, server, session, other = map(pytest.fixture, fixtures.FIXTURES.values())
+
+
+@pytest.fixture(scope="module")
+def package(request, tmp_path_factory):
+    """The package of the program, which is built once for all cases."""
+    if not shutil.which("dpkg-deb"):
+        pytest.skip("there is no dpkg-deb")
+    return request.module.Package(str(tmp_path_factory.mktemp("package")), Server.program)
 
 
 def pytest_addoption(parser):

@@ -4,6 +4,7 @@ import os
 import re
 import subprocess
 import tempfile
+import time
 
 from lib.cases import same
 from lib.example_sites import Sites, archive, audited, check_pages, octets_of
@@ -39,12 +40,33 @@ def granted(server, sites, count):
         return list(map(int, numbers))
 
 
+def seal(it):
+    it.lines(int(it.say("SEAL").split(" ")[1]))
+
+
 def with_files(server, sites):
     """Has a journal's second file begun, and returns the numbers that were granted in both."""
     numbers = granted(server, sites, 9)
     with Session(server) as it:
-        it.lines(int(it.say("SEAL").split(" ")[1]))
+        seal(it)
     return numbers + granted(server, sites, 9)
+
+
+def with_a_base(server, sites, folder):
+    """Has as many files begun as bring a base, and returns the numbers that were granted in them, and the base's
+    name."""
+    numbers = with_files(server, sites)
+    with Session(server) as it:
+        for _ in range(30):
+            same(it.say("ASK foobot http://a.example/"), "NO a.example unknown")
+            seal(it)
+        # (the server seals nothing while there is nothing new)
+        deadline = time.monotonic() + SECONDS
+        while len(bases := sorted(name for name in os.listdir(folder) if name.isdigit())) < 2:
+            assert time.monotonic() < deadline, "there is no base"
+            same(it.say("ASK foobot http://a.example/"), "NO a.example unknown")
+            time.sleep(0.1)
+    return numbers + granted(server, sites, 9), bases[-1]
 
 
 def starts_of(folder):
@@ -57,22 +79,23 @@ def starts_of(folder):
 
 
 def numbers_behind_a_damaged_file():
-    """A wrong entry in the last file, and a wrong line of its base: the server goes on with numbers that nobody had."""
+    """A wrong entry in the last file, and a wrong line of the last base: the server goes on with numbers that nobody
+    had."""
     for is_base in (False, True):
         with tempfile.TemporaryDirectory() as folder, Sites(2) as sites:
             journal = f"{folder}/journal"
             with Server("--journal", journal) as server:
-                numbers = with_files(server, sites)
-            before, last = sorted(it for it in os.listdir(journal) if it.isdigit())
-            with open(f"{journal}/{last}", "r+b") as file:
+                numbers, base = with_a_base(server, sites, journal)
+            damaged = base if is_base else max(os.listdir(journal))
+            with open(f"{journal}/{damaged}", "r+b") as file:
                 text = file.read()
-                at = text.index(b"\nL " if is_base else b"\nG ", 0 if is_base else text.index(b"\nE\n")) + 1
+                at = text.index(b"\nL " if is_base else b"\nG ") + 1
                 file.seek(at)
                 file.write(b"X")
-            assert f'{last}" line {text[:at].count(10) + 1} is wrong' in starts_of(journal)
-            names = {"name": ("journal/" + "0" * 20, f"journal/{before if is_base else last}")}
-            most = {"most": ("most=1000000", "most=2000000")} if is_base else {}
-            done("mkdir -m 700 anew", folder, **names, **most)
+            assert f'{damaged}" line {text[:at].count(10) + 1} is wrong' in starts_of(journal)
+            first = "journal/" + "0" * 20
+            replaced = {"most": ("most=1000000", "most=2000000")} if is_base else {"name": (first, f"journal/{base}")}
+            done("mkdir -m 700 anew", folder, **replaced)
             with Server("--journal", f"{folder}/anew") as server:
                 later = granted(server, sites, 9)
             assert min(later) > max(numbers) + 900_000 * 65_536, (later, numbers)
@@ -83,7 +106,7 @@ def numbers_behind_a_damaged_file():
 def a_copy_with_another_name():
     with tempfile.TemporaryDirectory() as folder, Sites(2) as sites:
         with Server("--journal", f"{folder}/journal") as server:
-            with_files(server, sites)
+            with_a_base(server, sites, f"{folder}/journal")
         port, beside = (it.rpartition(":")[2] for it in sites.authorities)
         # (no port lies between the two)
         other = str(int(port) + (1 if beside != str(int(port) + 1) else -1))
@@ -91,7 +114,7 @@ def a_copy_with_another_name():
         done("mkdir -p shown", folder, name=(f"{name}8000", f"{name}{port}"), other=others)
         text = b"".join(octets_of(f"{folder}/shown", ""))
         same(re.findall(rb"127\.0\.0\.1:%s[ /]" % port.encode(), text), [])
-        assert text.count(b"V 3\n") == 1 and other.encode() in text
+        assert b"V 3\n" in text and other.encode() in text
         ran = subprocess.run([Server.program, "audit"], input=text, capture_output=True, timeout=SECONDS)
         assert ran.stdout.startswith(b"OK events "), ran.stdout
 

@@ -103,7 +103,7 @@ async def early_journal():
         journal = os.path.join(folder, "journal")
         written, seconds = await behind_a_hanging_page(["--journal", journal], path, let_go)
         pieces = []
-        for name in sorted(it for it in os.listdir(journal) if it.isdigit()):
+        for name in sorted(it for it in os.listdir(journal) if it[0].isdigit()):
             with open(os.path.join(journal, name), "rb") as file:
                 pieces.append(file.read())
     said = await audited(b"".join(pieces))

@@ -110,7 +110,7 @@ class Gate(Server):
 
     def history(self):
         texts = []
-        for name in sorted(it for it in os.listdir(self.folder) if it.isdigit()):
+        for name in sorted(it for it in os.listdir(self.folder) if it[0].isdigit()):
             with open(f"{self.folder}/{name}", encoding="ascii") as file:
                 texts.append(file.read())
         return "".join(texts)

@@ -73,8 +73,8 @@ class Found:
             return file.read()
 
     def read(self):
-        """Reads what is new. Returns the whole lines of the last two files, and how many octets of a torn one
-        follow."""
+        """Reads what is new. Returns the whole lines of the files from the last base on, and how many octets of a torn
+        one follow."""
         names = self.names()
         for name in names:
             if name in self.done:
@@ -84,7 +84,8 @@ class Found:
             self._take(text[: text.rfind(b"\n") + 1].decode(), is_last=name == names[-1])
             if name != names[-1]:
                 self.done.add(name)
-        texts = [self.text(name) for name in names[-2:]]
+        base = max(it for it in names if it.isdigit())
+        texts = [self.text(name) for name in names if name >= base]
         whole = texts[-1].rfind(b"\n") + 1
         return b"".join(texts[:-1]) + texts[-1][:whole], len(texts[-1]) - whole
 

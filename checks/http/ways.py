@@ -20,6 +20,8 @@ METRICS = [
     "denied_by_lines_total", "denied_closed_total", "denied_unknown_total", "denied_expired_total",
     "denied_spent_total", "failed_pages_total",
     "failed_robots_total", "journal_octets_total", "journal_syncs_total", "journal_slowest_sync_microseconds",
+    "robots_no_name_total", "robots_refused_total", "robots_timed_out_total", "robots_tls_total", "robots_status_total",
+    "robots_other_total",
     "http_connections", "http_waiting", "http_waiting_visits", "http_visits",
 ]
 

@@ -1,11 +1,11 @@
 """What earlier runs of a check on this machine found, so that the same is not tried again.
 
-It is kept in $XDG_CACHE_HOME/crawlgate (else ~/.cache/crawlgate), in folders that belong to the user who runs the check, and
-that no one else can read or write. Anything else found there is not used, and without such a folder all is tried. Two things
-are kept:
+It is kept in $XDG_CACHE_HOME/crawlgate (else ~/.cache/crawlgate), in folders that belong to the user who runs the
+check, and that no one else can read or write. Anything else found there is not used, and without such a folder all is
+tried. Two things are kept:
 
-- folders of rattle's own (`--incremental`): with each module it keeps the sums of everything that the module was made from,
-  takes only what is up to date, and nothing that another build of rattle made;
+- folders of rattle's own (`--incremental`): with each module it keeps the sums of everything that the module was made
+  from, takes only what is up to date, and nothing that another build of rattle made;
 - verdicts, each under the sum of everything that was read for it. One that is damaged counts for nothing, and one in
   AGAIN is drawn and tried again in each run.
 """
@@ -91,8 +91,8 @@ class Store:
 
     @contextlib.contextmanager
     def increments(self, name):
-        """Lends a kept folder of rattle's only to this process. Another one, which is removed again, where it can't be kept
-        or another process has it. Its content is removed first where all is to be done anew."""
+        """Lends a kept folder of rattle's only to this process. Another one, which is removed again, where it can't be
+        kept or another process has it. Its content is removed first where all is to be done anew."""
         at = self.part("increments", name) if self.at and not self.is_distrusted else None
         with contextlib.ExitStack() as held:
             if at and self.has_room():
@@ -131,8 +131,8 @@ class Store:
 
 
 def begun_with(folder, other):
-    """Makes a folder of rattle's that begins with what another holds, by links: rattle replaces such a file and never writes
-    into it."""
+    """Makes a folder of rattle's that begins with what another holds, by links: rattle replaces such a file and never
+    writes into it."""
     if not os.path.isdir(folder) and os.path.isdir(other):
         part = f"{folder}.new"
         shutil.rmtree(part, ignore_errors=True)
@@ -165,8 +165,8 @@ class Verdicts:
         return made
 
     def key(self, crate, *more):
-        """Returns the sum of everything that a check of this crate reads: the kit, HANDLES, its line of crates.txt, its texts,
-        and the libraries below it as they are built; or None where nothing can be kept."""
+        """Returns the sum of everything that a check of this crate reads: the kit, HANDLES, its line of crates.txt, its
+        texts, and the libraries below it as they are built; or None where nothing can be kept."""
         if not self.at:
             return None
         # (a library that is made anew meanwhile gives no key)

@@ -1,4 +1,5 @@
-"""Wrong bodies as files of checks/edits: what one changes, whose contract must refuse it, and what a check said of that."""
+"""Wrong bodies as files of checks/edits: what one changes, whose contract must refuse it, and what a check said of
+that."""
 import os
 import re
 
@@ -57,19 +58,26 @@ def read(file):
         return it.read()
 
 
+def first_of(lines, rows, pattern):
+    """Returns the first of these rows whose line begins with what the pattern describes, or None."""
+    return next((it for it in rows if re.match(pattern, lines[it])), None)
+
+
 def function_at(text, at):
-    """Returns the name of the function whose body has this place, as a check ends it, and what proves it: the function, or
-    its cycle. None where the place is in no body."""
+    """Returns the name of the function whose body has this place, as a check ends it, and what proves it: the function,
+    or its cycle. None where the place is in no body."""
     lines = text.split("\n")
     row = text.count("\n", 0, at)
-    head = next((i for i in range(row, -1, -1) if re.match(r"( *)(pub(\([a-z]+\))? )?(final )?(const )?(unsafe )?fn \w+", lines[i])), None)
+    head = first_of(lines, range(row, -1, -1), r"( *)(pub(\([a-z]+\))? )?(final )?(const )?(unsafe )?fn \w+")
     if head is None:
         return None
     indent = re.match(" *", lines[head])[0]
-    end = next((i for i in range(head, len(lines)) if re.match(indent + r"[^ ].*\}$|" + indent + r"\}$", lines[i])), len(lines))
-    opens = next((i for i in range(head, end + 1) if re.match(indent + r"\{", lines[i]) or lines[i].endswith("{") and i == head), end)
-    opens = min(opens, next((i for i in range(head, end + 1) if lines[i].endswith("{") and not re.match(r" *(ensures|requires)", lines[i])), end))
-    if not opens < row <= end:
+    end = first_of(lines, range(head, len(lines)), f"{indent}[^ ].*\\}}$|{indent}\\}}$")
+    if end is None:
+        return None
+    # (a clause may end in an opening brace, too)
+    opens = first_of(lines, range(head, end + 1), rf"{indent}\{{|(?! *(ensures|requires)).*\{{$")
+    if opens is None or not opens < row <= end:
         return None
     name = re.search(r"fn (\w+)", lines[head])[1]
     over = []
@@ -79,7 +87,7 @@ def function_at(text, at):
         over.append(line)
     cycle = re.search(r"#\[cycle\((\w+)\)\]", "\n".join(over))
     if indent:
-        at = next((i for i in range(head - 1, -1, -1) if re.match(r"(pub(\([a-z]+\))? )?(impl|trait)\b", lines[i])), None)
+        at = first_of(lines, range(head - 1, -1, -1), r"(pub(\([a-z]+\))? )?(impl|trait)\b")
         if at is None:
             return None
         # an impl may name its parameters on lines of their own
@@ -130,9 +138,9 @@ class Told:
         self.notes = [it for it in lines[before + 1 : at] if re.match(r"note: src/\S+:\d+:\d+: ", it)]
 
     def verdict(self):
-        """Returns 'own' where it is refused at a goal of its own, 'calls' where only for what it calls, 'names' where only
-        since a proof file names what is gone, 'borrows' where the borrow checker can't follow it, so that no goal was
-        tried, 'proved', or None where nothing was said."""
+        """Returns 'own' where it is refused at a goal of its own, 'calls' where only for what it calls, 'names' where
+        only since a proof file names what is gone, 'borrows' where the borrow checker can't follow it, so that no goal
+        was tried, 'proved', or None where nothing was said."""
         if self.line is None or self.line.startswith(("could not tell", "assumed")):
             return None
         if self.line.partition(",")[0] == "proved":

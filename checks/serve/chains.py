@@ -121,7 +121,7 @@ def a_line_of_the_file_before():
         (BEFORE + "K 65537\n", LAST, FIRST, "line 6 is wrong"),
         (BEFORE.replace("B 100", "B 0100"), LAST, FIRST, "line 2 is wrong"),
         (BEFORE[:-1], LAST, FIRST, "line 5 is wrong"),
-        (BEFORE[:-8], LAST, SECOND, "line 2 is wrong"),
+        (BEFORE[:-8], LAST, SECOND, "does not begin where the files before it end"),
         (BEFORE, LAST.replace("%2Fx", "%2Fq"), SECOND, "line 3 is wrong"),
         (BEFORE, LAST.replace("line 2", "line 1"), SECOND, "line 6 is wrong"),
         (BEFORE, "", SECOND, "ends at line 1, before its entries begin"),
@@ -170,13 +170,12 @@ def files_of_several_servers():
             same({name: found[name] for name in texts}, texts)
             texts = {name: found[name] for name in sorted(found)[:-1]}
         same(audit(text_of(f"{folder}/journal")), "OK events 4 starts 0\n")
-        os.remove(f"{folder}/journal/{FIRST}")
-        same(begins(folder), (True, ""))
-        for name in sorted(contents(folder))[:-1]:
-            os.remove(f"{folder}/journal/{name}")
-        same(begins(folder)[1].endswith("begins at entry 4, the files before are not here\n"), True)
         put(folder, BEHIND_ALL, "V 2\n")
         same(refused(f"{folder}/journal").endswith("line 1 is wrong\n"), True)
+        os.remove(f"{folder}/journal/{BEHIND_ALL}")
+        os.remove(f"{folder}/journal/{FIRST}")
+        told = f'crawlgate: journal: "{folder}/journal/{1:020}.log" goes on from files that are not here\n'
+        same(begins(folder), (False, told))
 
 
 CASES = [

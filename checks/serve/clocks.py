@@ -111,7 +111,7 @@ def clock_set_back_before_a_start(folder, clocks):
     same(error.partition(" s behind ")[2], "the last entry, so each robots.txt is fetched anew\n")
     clocks.move(wall=41 * DAY)
     with Recorded(folder) as server:
-        known = next(it.split(" ")[1] for it in server.text().splitlines() if it.startswith("H "))
+        known = next(it.split(" ")[2] for it in server.text().splitlines() if it.startswith("B "))
         same(say(server, f"STATE {known}"), [f"STATE {known} expired idle"])
 
 

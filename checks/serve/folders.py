@@ -11,7 +11,7 @@ from journals import FIRST, Recorded, audit, refused, text_of
 from lib.cases import Skipped, in_time, same
 from lib.server import SECONDS, Server, Session
 
-NAMES = [".lock", ".new", FIRST]
+NAMES = [".lock", ".new", FIRST, f"{FIRST}.log"]
 
 
 def a_folder_is_its_owners():
@@ -117,7 +117,8 @@ def names_that_are_not_a_journals():
             same(it.say("QUIT"), "BYE")
             output, status, told = server.end()
         same((output, status), (b"SERVED connections 1 events 1\n", 0))
-        same(sorted(set(os.listdir(os.fsencode(f"{folder}/journal"))) - set(names)), [b".lock"])
+        made = set(os.listdir(os.fsencode(f"{folder}/journal"))) - set(names)
+        same(sorted(made), [b".lock", os.fsencode(f"{FIRST}.log")])
         has = f'crawlgate: journal: "{folder}/journal" has'
         wanted = [f'{has} "{name}", which is not a journal\'s and is left alone' for name in FOREIGN]
         wanted.append(f"{has} names that are not UTF-8 and are left alone: 1")
@@ -126,7 +127,7 @@ def names_that_are_not_a_journals():
 
 def a_file_that_was_compressed():
     """A name that begins as a journal's file is refused by that name, until the file is moved away."""
-    for more in (".gz", "~", ".orig", "0"):
+    for more in (".gz", "~", ".orig", "0", ".log.gz", ".logs"):
         with folder_with_altered(more) as (folder, path):
             os.rename(path, f"{folder}/away")
             with Recorded(folder, "--connections", "1") as server, Session(server) as it:
@@ -210,9 +211,9 @@ def a_seal_in_a_folder_that_was_replaced():
         same(audit(text_of(f"{folder}/other")), "OK events 1 starts 0\n")
 
 
-def on_a_small_disk(folder, files, kilobytes):
-    """Returns the status and the standard error of a server whose journal has these files, on a disk of its own. They
-    are in the folder `left` as it leaves them."""
+def on_a_small_disk(folder, files, kilobytes, *words):
+    """Returns the status and the standard error of a program with these words whose journal has these files, on a disk
+    of its own. They are in the folder `left` as it leaves them."""
     os.mkdir(f"{folder}/files")
     os.mkdir(f"{folder}/journal")
     for name, text in files.items():
@@ -221,12 +222,12 @@ def on_a_small_disk(folder, files, kilobytes):
     os.mkdir(f"{folder}/left")
     disk = f'mount -t tmpfs -o size={kilobytes}k none "$0/journal" && cp "$0"/files/* "$0/journal"'
     script = f'{disk} && {{ "$@"; status=$?; cp "$0"/journal/[0-9]* "$0/left"; exit $status; }}'
-    words = [
-        Server.program, "serve", "--port", "0", "--connections", "1", "--patience", "1", "--journal",
-        f"{folder}/journal",
-    ]
-    ran = subprocess.run(["unshare", "-rm", "sh", "-c", script, folder, *words], capture_output=True, timeout=SECONDS)
+    words = ["unshare", "-rm", "sh", "-c", script, folder, Server.program, *words, "--journal", f"{folder}/journal"]
+    ran = subprocess.run(words, stdin=subprocess.DEVNULL, capture_output=True, timeout=SECONDS)
     return ran.returncode, ran.stderr.decode()
+
+
+SERVE = ["serve", "--port", "0", "--connections", "1", "--patience", "1"]
 
 
 def needs_a_disk():
@@ -235,13 +236,13 @@ def needs_a_disk():
 
 
 def no_room_for_the_next_file():
-    """A start says how much room the next file needs, and in which folder."""
+    """A shift says how much room its file needs, and in which folder. A server's needs none."""
     needs_a_disk()
     first = f"V 2\nB 100 a.example 1\nA 101 a.example 1 R 86400 %23{'x' * 9000}\n"
     base = f"V 3\nT 2 0 1 101\nH a.example 1 100 R 86400 %23{'x' * 9000}\nE\n"
     with tempfile.TemporaryDirectory() as folder:
         told = f'crawlgate: journal: "{folder}/journal" has no room for the next file, which needs {len(base)} octets\n'
-        same(on_a_small_disk(folder, {FIRST: first}, 16), (3, told))
+        same(on_a_small_disk(folder, {FIRST: first}, 16, "shift"), (3, told))
 
 
 def no_room_to_end_the_last_file():
@@ -261,7 +262,7 @@ def no_room_to_end_the_last_file():
             if torn:
                 removed_line = f"ends in a torn line, whose {len(torn)} octets are removed"
                 told = f'crawlgate: journal: "{folder}/journal/{FIRST}" {removed_line}\n{told}'
-            same(on_a_small_disk(folder, {FIRST: whole + torn}, 24), (3, told))
+            same(on_a_small_disk(folder, {FIRST: whole + torn}, 24, *SERVE), (3, told))
             with open(f"{folder}/left/{FIRST}") as file:
                 same(file.read(), whole)
 

@@ -95,7 +95,7 @@ def journal_of_clients_side_by_side():
         same(pages, sorted(f"http://a.example/{client}/{turn}" for client in range(clients) for turn in range(turns)))
         with Session(server) as it:
             same(len(sealed(it)), clients * turns + 1)
-        same(sorted(os.listdir(server.folder)), [".lock", FIRST, f"{clients * turns:020}"])
+        same(sorted(os.listdir(server.folder)), [".lock", FIRST, f"{clients * turns:020}.log"])
 
 
 def journal_of_fetches():
@@ -150,7 +150,8 @@ def killed_with_a_journal():
 
 
 def journal_turns_over():
-    """A seal hands out the segment that a file ends with, and begins the next file, named by the entries before it."""
+    """A seal hands out the entries of the file that it ends, after their base, and begins the next file, named by the
+    entries before it."""
     site = open_site()
     with tempfile.TemporaryDirectory() as folder, Recorded(folder, "--connections", "2") as server:
         with Session(server) as it:
@@ -159,12 +160,13 @@ def journal_turns_over():
             text = "".join(f"{line}\n" for line in sealed(it))
             with open(f"{server.folder}/{FIRST}") as file:
                 same(file.read(), text)
-            same(sorted(os.listdir(server.folder)), [".lock", FIRST, f"{3:020}"])
+            same(sorted(os.listdir(server.folder)), [".lock", FIRST, f"{3:020}.log"])
             same(sealed(it), [])
             same(it.say("BACK 65536"), "BACK 65536")
-            text = "".join(f"{line}\n" for line in sealed(it))
-            with open(f"{server.folder}/{3:020}") as file:
-                same(file.read(), text)
+            lines = sealed(it)
+            same((lines[0], lines[-2:]), ("V 3", ["E", "K 65536"]))
+            with open(f"{server.folder}/{3:020}.log") as file:
+                same(file.read(), "K 65536\n")
             same(it.say("QUIT"), "BYE")
         with Session(server) as it:
             same(it.say("QUIT"), "BYE")

@@ -36,9 +36,9 @@ def why_an_answer_stands(session):
     """WHY answers with the answer that stands, as the text of the history has it, with its turn and its beginning."""
     rows = [
         (response(404), "O unavailable"),
-        (response(503), "C server"),
-        (response(302, b"", "Location: ftp://x/"), "C scheme"),
-        (response(200, b"gzip", "Content-Encoding: gzip"), "C coding"),
+        (response(503), "C server 503"),
+        (response(302, b"", "Location: ftp://x/"), "C scheme redirect to another scheme"),
+        (response(200, b"gzip", "Content-Encoding: gzip"), "C coding coded"),
         (response(200, b"User-agent: *\nDisallow: /x y\n"), "R 86400 User-agent%3A%20%2A%0ADisallow%3A%20%2Fx%20y%0A"),
         (response(200, b"", "Cache-Control: max-age=70"), "R 70 -"),
         (response(200, b"-"), "R 86400 %2D"),
@@ -160,7 +160,7 @@ def seal_port_with_a_journal():
             same(other.say("QUIT"), "BYE")
             same(it.say("QUIT"), "BYE")
             same(server.end(), (b"SERVED connections 1 events 1\n", 0, b""))
-            same(sorted(os.listdir(server.folder)), [".lock", "0" * 20, f"{1:020}"])
+            same(sorted(os.listdir(server.folder)), [".lock", "0" * 20, f"{1:020}.log"])
             same(audit(server.text()), "OK events 1 starts 0\n")
 
 

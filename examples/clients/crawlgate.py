@@ -227,7 +227,8 @@ class Gate:
 
     def why(self, authority: str) -> Optional[List[Union[int, str]]]:
         """Returns the answer that stands for a site: the number of its turn, the moment of that turn's begin in seconds, and
-        the words of the answer as the text of a history has them. None where no answer stands."""
+        the words of the answer as the text of a history has them; behind those of a closed site ('C' and a word), if the server
+        knows it, the words of what closed it. None where no answer stands."""
         _, *words = self._say("WHY", "WHY", authority).split(" ")
         return None if words == ["unknown"] else [int(words[0]), int(words[1]), *words[2:]]
 

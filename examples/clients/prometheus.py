@@ -27,6 +27,12 @@ COUNTERS = {
     "denied_spent": ("denied_spent_total", "Starts without an unspent permit."),
     "failed_pages": ("failed_pages_total", "Fetches of pages that gave no response."),
     "failed_robots": ("failed_robots_total", "Fetches of robots.txt files that gave no response or a server's error."),
+    "robots_no_name": ("robots_no_name_total", "Those of them whose host has no address."),
+    "robots_refused": ("robots_refused_total", "Those of them that no server accepted, or to which there was no route."),
+    "robots_timed_out": ("robots_timed_out_total", "Those of them that a time limit ended."),
+    "robots_tls": ("robots_tls_total", "Those of them without a TLS connection, or a program that opens one."),
+    "robots_status": ("robots_status_total", "Those of them with a status of 500 to 599."),
+    "robots_other": ("robots_other_total", "Those of them that failed for another cause."),
     "journal_octets": ("journal_octets_total", "Octets written to the journal."),
     "journal_syncs": ("journal_syncs_total", "Syncs of the journal."),
 }

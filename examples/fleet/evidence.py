@@ -34,7 +34,7 @@ class Unreadable(Exception):
 def files_of(folder):
     """Returns the paths of a journal's files, in the order of its entries."""
     try:
-        names = sorted(it for it in os.listdir(folder) if re.fullmatch(r"\d{20}", it))
+        names = sorted(it for it in os.listdir(folder) if re.fullmatch(r"\d{20}(\.log)?", it))
     except OSError as error:
         raise Unreadable(f"{folder}: {error.strerror}") from None
     if not names:

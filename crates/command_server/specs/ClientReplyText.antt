@@ -15,7 +15,7 @@ use Rattle.command_server.specs.InfoText.{info_text}
 use Rattle.command_lines.specs.RefusalText.{refusal_text}
 use Rattle.command_lines.specs.ReplyText.{arrive_text, ask_text, back_text, begin_text, bye_text, denial_text, finish_text, go_text, state_text, url_text}
 use Rattle.command_lines.specs.SealText.{seal_text}
-use Rattle.command_lines.specs.WhyText.{why_text}
+use Rattle.command_server.specs.WhyReply.{why_reply_text}
 use Rattle.command_server.specs.declared.client_reply.ClientReply.{ClientReply}
 use Rattle.command_server.specs.declared.client_reply.ClientReply.TheVariants as replies
 
@@ -50,6 +50,6 @@ client_reply_text (replies.Refreshed authority result) = refresh_text authority 
 client_reply_text (replies.Fetched outcome) = fetched_text outcome
 client_reply_text (replies.Written url) = url_text url
 client_reply_text (replies.Counted counts server) = info_text counts server
-client_reply_text (replies.Explained authority result) = why_text authority result
+client_reply_text (replies.Explained authority result closed_by) = why_reply_text authority result closed_by
 client_reply_text replies.NoMemory = refusal_text refusals.NoMemory
 client_reply_text replies.Bye = bye_text

@@ -1,6 +1,6 @@
 -- What a keeper does for a client's line, and the reply.
 -- Cited by `serve`.
-use Rattle.std.specs.Prelude.{◌≡◌, ◌⊎◌, ◌||◌, ℕ, Bool, true, false, List, Option, Some, None, Result, Ok, Err}
+use Rattle.std.specs.Prelude.{◌≡◌, ◌⊎◌, ◌||◌, ℕ, Bool, true, false, List, Option, Some, None, IfSome, Result, Ok, Err}
 use Rattle.path_normal.specs.Capacity.{Enough, Overflows, Refused}
 use Rattle.gate_history.specs.Segment.{Sealed}
 use Rattle.authority_cache.specs.declared.standing_answer.StandingAnswer.{StandingAnswer}
@@ -11,6 +11,7 @@ use Rattle.gate_core.specs.declared.refusal.NoMemory.{NoMemory}
 use Rattle.gate_core.specs.declared.state.Standing.{Standing}
 use Rattle.gate_core.specs.declared.state.State.{State}
 use Rattle.crawl_job.specs.declared.job.Outcome.{Outcome}
+use Rattle.fetchers.specs.declared.closed_by.ClosedBy.{ClosedBy}
 use Rattle.keepers.specs.Deals.{Deals}
 use Rattle.keepers.specs.declared.counts.Counts.{Counts}
 use Rattle.command_server.specs.declared.server_counters.ServerCounts.{ServerCounts}
@@ -20,6 +21,7 @@ use Rattle.command_lines.specs.Limits.{max_client_line, max_lines}
 use Rattle.command_server.specs.Readings.{next_reading}
 use Rattle.command_lines.specs.Session.{Session}
 use Rattle.command_server.specs.ClientReplyText.{client_reply_text}
+use Rattle.command_server.specs.WhyReply.{is_closed}
 use Rattle.command_lines.specs.declared.command.Command.{Command}
 use Rattle.command_lines.specs.declared.command.Command.TheVariants as commands
 use Rattle.command_lines.specs.declared.fault.LineFault.{LineFault}
@@ -89,8 +91,9 @@ module _ {S : Type 0} (deals : Deals S) where
       (counts : Counts) × ((server : ServerCounts)
       × (deals.counts old counts × (told ≡ replies.Counted counts server) × (new ≡ old)))
   DoesCommand reads old (Ok (commands.Why authority)) told new =
-      (result : Result (Option StandingAnswer) NoMemory)
-      × (deals.answers old authority result × (told ≡ replies.Explained authority result) × (new ≡ old))
+      (result : Result (Option StandingAnswer) NoMemory) × ((closed_by : Option ClosedBy)
+      × (deals.answers old authority result × IfSome closed_by (λ by. is_closed result ≡ true)
+      × (told ≡ replies.Explained authority result closed_by) × (new ≡ old)))
   DoesCommand reads old (Ok commands.Quit) told new = deals.ends old new × (told ≡ replies.Bye)
   DoesCommand reads old (Err fault) told new = TellsFault old fault told new
 

@@ -4,6 +4,7 @@ use Rattle.std.specs.Prelude.{List, ℕ, ◌++◌, codes, decimal}
 use Rattle.keepers.specs.declared.counts.Counts.{Counts}
 use Rattle.command_server.specs.declared.server_counters.DenialCounts.{DenialCounts}
 use Rattle.command_server.specs.declared.server_counters.ServerCounts.{ServerCounts}
+use Rattle.fetchers.specs.declared.fetch_meter.RobotsFaults.{RobotsFaults}
 use Rattle.journal.specs.declared.meter.JournalCounts.{JournalCounts}
 
 -- the entries, the starts, and the permits out
@@ -47,11 +48,33 @@ unfoldable pub journal_of_info : JournalCounts → List ℕ
 journal_of_info journal =
     decimal journal.octets
     ++ (codes " journal_syncs " ++ (decimal journal.syncs
-    ++ (codes " slowest_sync " ++ (decimal journal.slowest_sync ++ codes "\n"))))
+    ++ (codes " slowest_sync " ++ (decimal journal.slowest_sync ++ codes " robots_no_name "))))
+
+-- the fetches of robots.txt files that heard nothing of a server, by cause
+unfoldable pub unheard_of_info : RobotsFaults → List ℕ
+unheard_of_info faults =
+    decimal faults.no_name
+    ++ (codes " robots_refused " ++ (decimal faults.refused
+    ++ (codes " robots_timed_out " ++ (decimal faults.timed_out ++ codes " robots_tls "))))
+
+-- the other failed fetches of robots.txt files, by cause
+unfoldable pub refusals_of_info : RobotsFaults → List ℕ
+refusals_of_info faults =
+    decimal faults.tls
+    ++ (codes " robots_status " ++ (decimal faults.status
+    ++ (codes " robots_other " ++ (decimal faults.other ++ codes "\n"))))
+
+-- the failed fetches of robots.txt files by cause
+abbrev pub causes_of_info : RobotsFaults → List ℕ
+causes_of_info faults = unheard_of_info faults ++ refusals_of_info faults
+
+-- what follows the fetches without a response
+abbrev pub records_of_info : ServerCounts → List ℕ
+records_of_info server = journal_of_info server.journal ++ causes_of_info server.robots_faults
 
 -- what follows the denials
 abbrev pub work_of_info : ServerCounts → List ℕ
-work_of_info server = faults_of_info server ++ journal_of_info server.journal
+work_of_info server = faults_of_info server ++ records_of_info server
 
 -- what follows the connections
 abbrev pub events_of_info : ServerCounts → List ℕ

@@ -4,3 +4,4 @@ pub mod ClientReplyText
 pub mod Readings
 pub mod FirstLines
 pub mod Clients
+pub mod WhyReply

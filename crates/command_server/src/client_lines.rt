@@ -10,6 +10,7 @@ use crate::first_line::FirstLine;
 use crate::kept_pages::KeptPages;
 use crate::numbered_clock::{FetchClock, NumberedClock, next_reading};
 use crate::server_counters::ServerCounters;
+use crate::why_reply::cause_of;
 use command_lines::{Answerer, Command, Flow, Known, LineFault, Speaker, read_command};
 use counted_io::{DeviceFault, Output, Sink};
 use crawl_job::Outcome;
@@ -104,7 +105,12 @@ impl<C: NumberedClock> ClientLines<'_, C> {
             },
             Ok(Command::Why { authority }) => {
                 let result = keeper.answer(alloc, &authority);
-                ClientReply::Explained { authority, result }
+                let closed_by = cause_of(self.counters, &result);
+                ClientReply::Explained {
+                    authority,
+                    result,
+                    closed_by,
+                }
             }
             Ok(Command::Quit) => {
                 keeper.end();

@@ -9,14 +9,16 @@ ghost use Rattle.command_server.specs.ClientReplyText.{body_text, fetched_text, 
 
 use crate::info_text::push_info;
 use crate::server_counters::{ServerCounters, ServerCounts};
+use crate::why_reply::push_why_reply;
 use authority_cache::StandingAnswer;
 use command_lines::{
     Flow, LineFault, arrive_pieces, ask_pieces, back_pieces, begin_pieces, bye_pieces,
     denial_pieces, fault_pieces, finish_pieces, go_pieces, push_done, push_go, push_hops,
-    push_permit, push_sealed, push_why, refusal_pieces, state_pieces, url_pieces,
+    push_permit, push_sealed, refusal_pieces, state_pieces, url_pieces,
 };
 use counted_io::{DeviceFault, Output, Sink};
 use crawl_job::{Outcome, Refusal};
+use fetchers::ClosedBy;
 use gate_core::{AskRefusal, BeginRefusal, Denial, NoMemory, Standing, State};
 use gate_history::{Reason, Segment};
 use keepers::Counts;
@@ -60,10 +62,11 @@ pub(crate) enum ClientReply {
         counts: Counts,
         server: ServerCounts,
     },
-    /// The authority's standing answer, in force or not.
+    /// The authority's standing answer, in force or not, and what closed its site, if that is known.
     Explained {
         authority: Authority,
         result: Result<Option<StandingAnswer>, NoMemory>,
+        closed_by: Option<ClosedBy>,
     },
     /// No memory to fetch.
     NoMemory,
@@ -152,8 +155,12 @@ impl ClientReply {
             ClientReply::Counted { counts, server } => {
                 return push_info(*counts, *server, output, sink);
             }
-            ClientReply::Explained { authority, result } => {
-                return push_why(authority, result, output, sink);
+            ClientReply::Explained {
+                authority,
+                result,
+                closed_by,
+            } => {
+                return push_why_reply(authority, result, *closed_by, output, sink);
             }
             ClientReply::Fault(fault) => fault_pieces(*fault),
             ClientReply::Asked(result) => ask_pieces(result),

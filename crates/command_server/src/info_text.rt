@@ -4,9 +4,11 @@ ghost use Rattle.std.specs.Prelude.{◌≡◌};
 ghost use Rattle.counted_io.specs.Output.{Pushes};
 ghost use Rattle.line_text.specs.Pieces.{pieces_text};
 ghost use Rattle.command_server.specs.InfoText.{after_authorities, begin_of_info, denials_of_info, end_of_info, events_of_info, faults_of_info, info_text, journal_of_info, rest_of_info, server_of_info, work_of_info};
+ghost use Rattle.command_server.specs.InfoText.{causes_of_info, records_of_info, refusals_of_info, unheard_of_info};
 
 use crate::server_counters::{DenialCounts, ServerCounts};
 use counted_io::{DeviceFault, Output, Sink};
+use fetchers::RobotsFaults;
 use journal::JournalCounts;
 use keepers::Counts;
 use line_text::{Piece, Pieces};
@@ -77,7 +79,33 @@ fn push_work<W: Sink>(
         (work_of_info server) result }
 {
     fault_pieces(server).push(output, sink)?;
-    journal_pieces(server.journal).push(output, sink)
+    push_records(server, output, sink)
+}
+
+fn push_records<W: Sink>(
+    server: ServerCounts,
+    output: &mut Output,
+    sink: &mut W,
+) -> Result<(), DeviceFault>
+    ensures { Pushes (W.written sink.old) (W.written sink.new)
+        (W.failures sink.old) (W.failures sink.new) output.old output.new
+        (records_of_info server) result }
+{
+    journal_pieces(server.journal).push(output, sink)?;
+    push_causes(server.robots_faults, output, sink)
+}
+
+fn push_causes<W: Sink>(
+    faults: RobotsFaults,
+    output: &mut Output,
+    sink: &mut W,
+) -> Result<(), DeviceFault>
+    ensures { Pushes (W.written sink.old) (W.written sink.new)
+        (W.failures sink.old) (W.failures sink.new) output.old output.new
+        (causes_of_info faults) result }
+{
+    unheard_pieces(faults).push(output, sink)?;
+    refusal_pieces(faults).push(output, sink)
 }
 
 // The entries, the starts, and the permits out.
@@ -171,6 +199,36 @@ fn journal_pieces(journal: JournalCounts) -> Pieces<'static>
         Piece::Number(journal.syncs),
         Piece::Text(" slowest_sync "),
         Piece::Number(journal.slowest_sync),
+        Piece::Text(" robots_no_name "),
+    ])
+}
+
+// The fetches of robots.txt files that heard nothing of a server, by cause.
+#[tactic(auto, unfolding(crate::specs::InfoText::unheard_of_info))]
+fn unheard_pieces(faults: RobotsFaults) -> Pieces<'static>
+    ensures { pieces_text result ≡ unheard_of_info faults }
+{
+    Pieces::of(&[
+        Piece::Number(faults.no_name),
+        Piece::Text(" robots_refused "),
+        Piece::Number(faults.refused),
+        Piece::Text(" robots_timed_out "),
+        Piece::Number(faults.timed_out),
+        Piece::Text(" robots_tls "),
+    ])
+}
+
+// The other failed fetches of robots.txt files, by cause.
+#[tactic(auto, unfolding(crate::specs::InfoText::refusals_of_info))]
+fn refusal_pieces(faults: RobotsFaults) -> Pieces<'static>
+    ensures { pieces_text result ≡ refusals_of_info faults }
+{
+    Pieces::of(&[
+        Piece::Number(faults.tls),
+        Piece::Text(" robots_status "),
+        Piece::Number(faults.status),
+        Piece::Text(" robots_other "),
+        Piece::Number(faults.other),
         Piece::Text("\n"),
     ])
 }

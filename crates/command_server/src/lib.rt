@@ -10,6 +10,7 @@ mod info_text;
 mod kept_pages;
 mod numbered_clock;
 mod server_counters;
+mod why_reply;
 
 pub use client_session::{MAX_CLIENT_LINE, serve, serve_from, serve_overseer};
 pub use command_lines::{SessionFault, replay};

@@ -1,8 +1,10 @@
-//! What a server counts of its clients, for the verb INFO and for `/metrics`.
+//! What a server counts of its clients and its fetches, for the verb INFO and for `/metrics`; and what closed
+//! sites, for WHY.
 //! A session without a server counts for itself.
 
+use authority_cache::TurnNo;
 use crawl_job::Hop;
-use fetchers::FetchMeter;
+use fetchers::{ClosedBy, FetchMeter, RobotsFaults};
 use gate_history::Cause;
 use journal::{JournalCounts, JournalMeter};
 use std::sync::atomic::{AtomicU64, Ordering};
@@ -35,6 +37,8 @@ pub struct ServerCounts {
     pub failed_pages: u64,
     /// How many fetches of robots.txt files gave no response or a server's error.
     pub failed_robots: u64,
+    /// Those fetches by cause.
+    pub robots_faults: RobotsFaults,
     /// What its journal has written; nothing without one.
     pub journal: JournalCounts,
 }
@@ -105,6 +109,14 @@ impl<'a> ServerCounters<'a> {
         }
     }
 
+    /// What closed the site of this turn, if its fetcher knows.
+    pub fn closed_by(&self, turn: TurnNo) -> Option<ClosedBy> {
+        match self.fetches {
+            Some(meter) => meter.closed_by(turn),
+            None => None,
+        }
+    }
+
     /// The counts at this moment.
     pub fn read(&self) -> ServerCounts {
         ServerCounts {
@@ -115,6 +127,10 @@ impl<'a> ServerCounters<'a> {
             failed_robots: match self.fetches {
                 Some(meter) => meter.failed_robots(),
                 None => 0,
+            },
+            robots_faults: match self.fetches {
+                Some(meter) => meter.robots_faults(),
+                None => RobotsFaults::none(),
             },
             journal: match self.journal {
                 Some(meter) => meter.read(),

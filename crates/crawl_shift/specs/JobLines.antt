@@ -25,9 +25,14 @@ use Rattle.crawl_shift.specs.declared.job_lines.JobLinesFault.{JobLinesFault}
 use Rattle.crawl_shift.specs.declared.job_lines.JobLinesFault.TheVariants.{BadLine, Read, NoMemory}
 use Rattle.crawl_shift.specs.declared.job_lines.Reading.{Reading}
 
+-- what is wrong with a line: what a command line is told, but of one too many how many there may be (max_jobs)
+abbrev pub bad_line_words : LineFault → List ℕ
+bad_line_words faults.Lines = codes "a shift has at most 4096 jobs"
+bad_line_words fault = fault_words fault
+
 -- what is reported of a line that can't be read
 abbrev pub bad_line_text : BadJobLine → List ℕ
-bad_line_text bad = codes "line " ++ (decimal bad.number ++ (codes ": " ++ (fault_words bad.fault ++ codes "\n")))
+bad_line_text bad = codes "line " ++ (decimal bad.number ++ (codes ": " ++ (bad_line_words bad.fault ++ codes "\n")))
 
 -- the line of this number has the reported fault
 pub record IsToldOf (schemes : Schemes) (number : ℕ) (line : List ℕ) (told : BadJobLine) : Type 0 where

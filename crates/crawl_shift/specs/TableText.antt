@@ -5,8 +5,9 @@ use Rattle.gate_history.specs.Wording.{reason_words}
 use Rattle.http_client.specs.declared.failure.Failure.{Failure}
 use Rattle.crawl_job.specs.declared.hop.Hop.{Hop}
 use Rattle.crawl_job.specs.declared.hop.Hop.TheVariants as hops
-use Rattle.page_worker.specs.declared.event.ClosedBy.{ClosedBy}
-use Rattle.crawl_shift.specs.Causes.{denial_phrase, wire_fault_phrase, refusal_phrase, spaced_words, stop_phrase}
+use Rattle.fetchers.specs.declared.closed_by.ClosedBy.{ClosedBy}
+use Rattle.fetchers.specs.CauseText.{wire_fault_phrase}
+use Rattle.crawl_shift.specs.Causes.{denial_phrase, refusal_phrase, spaced_words, stop_phrase}
 use Rattle.crawl_shift.specs.declared.hop_row.HopRow.{HopRow}
 
 -- the separator of columns

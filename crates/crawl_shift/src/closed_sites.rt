@@ -1,16 +1,17 @@
 //! The sites that their robots.txt files closed in a shift, and why, reported once each.
 ghost use Rattle.std.specs.Prelude.{◌≡◌, ◌++◌};
 ghost use Rattle.line_text.specs.Pieces.{pieces_text};
-ghost use Rattle.crawl_shift.specs.Causes.{words_text};
+ghost use Rattle.fetchers.specs.CauseText.{words_text};
 ghost use Rattle.crawl_shift.specs.ClosedText.{closed_site_text};
 
-use crate::causes::{CauseWords, closing_words};
+use crate::causes::robots_words;
 use counted_io::{DeviceFault, Output, Sink};
 use crawl_job::{Job, Outcome};
 use crawl_workers::Watcher;
+use fetchers::{CauseWords, ClosedBy};
 use http_client::Failure;
 use line_text::{AsPieces, Piece, Pieces, push_each};
-use page_worker::{ClosedBy, Event};
+use page_worker::Event;
 use std::alloc::{AllocError, Global};
 use std::sync::{Mutex, Wait};
 
@@ -92,7 +93,7 @@ impl AsPieces for ClosedSite {
         line_of(
             self.authority.as_str(),
             " is closed: ",
-            closing_words(self.by),
+            robots_words(self.by),
             "\n",
         )
     }

@@ -2,16 +2,16 @@
 ghost use Rattle.std.specs.Prelude.{◌≡◌, ◌++◌, codes};
 ghost use Rattle.counted_io.specs.Output.{Pushes};
 ghost use Rattle.line_text.specs.Pieces.{piece_text, pieces_text};
-ghost use Rattle.crawl_shift.specs.Causes.{words_text};
+ghost use Rattle.fetchers.specs.CauseText.{words_text};
 ghost use Rattle.crawl_shift.specs.TableText.{cause_text, columns_text, number_text, octets_of, outcome_text};
 ghost use Rattle.crawl_shift.specs.TableText.{outcome_word, place_text, row_text, hop_status};
 
-use crate::causes::{CauseWords, denial_words, fault_words, refusal_words, stop_words, worded};
+use crate::causes::{denial_words, refusal_words, stop_words, worded};
 use counted_io::{DeviceFault, Output, Sink};
 use crawl_job::Hop;
+use fetchers::{CauseWords, ClosedBy, fault_words};
 use http_client::Failure;
 use line_text::{Piece, Pieces};
-use page_worker::ClosedBy;
 
 /// A hop that has ended. Jobs and hops count from 1.
 #[derive(Clone, Copy)]

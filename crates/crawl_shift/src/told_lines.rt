@@ -3,9 +3,10 @@ ghost use Rattle.std.specs.Prelude.{◌≡◌, [], flat_map, IfOk};
 ghost use Rattle.counted_io.specs.Output.{Pushes};
 ghost use Rattle.std.specs.Io.KnownBytes.{Appends};
 ghost use Rattle.line_text.specs.Pieces.{pieces_text};
-ghost use Rattle.crawl_shift.specs.JobLines.{bad_line_text};
+ghost use Rattle.crawl_shift.specs.JobLines.{bad_line_text, bad_line_words};
 
 use crate::job_lines::BadJobLine;
+use command_lines::LineFault;
 use counted_io::{DeviceFault, Output, Sink};
 use line_text::{AsPieces, Piece, Pieces, push_each};
 use std::alloc::Global;
@@ -48,8 +49,18 @@ impl AsPieces for BadJobLine {
             Piece::Text("line "),
             Piece::Number(self.number),
             Piece::Text(": "),
-            Piece::Text(self.fault.words()),
+            Piece::Text(words_of(self.fault)),
             Piece::Text("\n"),
         ])
+    }
+}
+
+// What is wrong with a line.
+fn words_of(fault: LineFault) -> &'static str
+    ensures { result.now ≡ bad_line_words fault }
+{
+    match fault {
+        LineFault::Lines => "a shift has at most 4096 jobs",
+        other => other.words(),
     }
 }

@@ -1,9 +1,9 @@
 //! The hops in progress, and what is known of each until it ends.
 use crate::hop_row::HopRow;
 use crawl_job::Hop;
+use fetchers::ClosedBy;
 use http_client::Failure;
 use job_line::MAX_WORKERS;
-use page_worker::ClosedBy;
 use path_normal::PageUrl;
 use robots_text::Token;
 use std::alloc::{AllocError, Global};

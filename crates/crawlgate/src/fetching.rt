@@ -52,3 +52,14 @@ pub(crate) fn new_fetcher(
         Contact::Text(text) => fetcher.with_contact(text.as_str()),
     }
 }
+
+/// Such a fetcher, which notes what closed sites.
+pub(crate) fn new_noting_fetcher(
+    host: &HostRuntime,
+    ways: Ways<'_>,
+    contact: &Contact,
+) -> Result<TcpFetcher<HostRuntime>, AllocError>
+    requires { IsAllowedContact contact.now }
+{
+    new_fetcher(host, ways, contact)?.noting_causes()
+}

@@ -29,6 +29,7 @@ use crawl_shift::{
 };
 use fetchers::Fetcher;
 use gate_lock::{Blanks, Gate, GateLock};
+use journal::FirstFile;
 use page_worker::Clock;
 use program_arguments::{BadJobs, ShiftOptions, ShiftOutput};
 use program_commands::{
@@ -143,9 +144,18 @@ fn shift_jobs<
     requires book { IsIdle begun.book }
     requires blanks { blanks ≡ G.ledgers }
 {
-    let JournalStart { book, sites } = begun;
+    // (nobody puts bases beside a shift: its journal's file has one)
+    let JournalStart {
+        book,
+        sites,
+        first: _,
+    } = begun;
     let (gate, receipts) = GateLock::<G>::resume(host.alloc(), book, blanks);
-    let past = Past { receipts, sites };
+    let past = Past {
+        receipts,
+        sites,
+        first: FirstFile::WithBase,
+    };
     let lines = read_jobs(host, shift.fetcher, options.bad_jobs)?;
     tell_lines(host, lines.bad.as_slice());
     let jobs = lines.jobs.as_slice();

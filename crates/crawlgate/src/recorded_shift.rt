@@ -65,7 +65,7 @@ pub(crate) fn shift_recorded<
         sync,
         room,
     } = journal;
-    match GroupJournal::begin(shift.alloc, &chronicle, folder, sync, room) {
+    match GroupJournal::begin(shift.alloc, &chronicle, folder, sync, room, past.first) {
         Ok(journal) => {
             let recorded = RecordedShift {
                 gate,
@@ -222,7 +222,11 @@ impl<
         shift: &Shift<'_, '_, E, F, C, R>,
         past: Past<G>,
     ) -> Result<Vec<Receipts<G>>, NoKeeper> {
-        let Past { receipts, sites } = past;
+        let Past {
+            receipts,
+            sites,
+            first: _,
+        } = past;
         let mut all = Vec::new(shift.alloc);
         if all.push(receipts).is_err() {
             return Err(NoKeeper::NoMemory);

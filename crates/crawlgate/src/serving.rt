@@ -4,21 +4,23 @@ ghost use Rattle.gate_core.specs.Resuming.{IsIdle};
 ghost use Rattle.job_line.specs.Limits.{IsCrew};
 ghost use Rattle.program_arguments.specs.Options.{AreForServe};
 
-use crate::fetching::{Ways, new_fetcher};
+use crate::fetching::{Ways, new_noting_fetcher};
 use crate::http_place::{HttpPlace, open_http, tell_http_place};
-use crate::journal_start::{JournalStart, OpenJournal, Past, begin_with, clock_of, open_journal};
+use crate::journal_start::{
+    JournalStart, OpenJournal, Past, begin_with, clock_of, folder_of, open_journal,
+};
 use crate::tls_program::find_tls_program;
 use client_connections::{Connections, Listener, MAX_CONNECTIONS};
 use gate_journal::Recording;
 use gate_lock::{Blanks, Gate, GateLock};
 use gate_settlement::SettleFault;
-use journal::{GroupJournal, Recorder, Unrecorded};
+use journal::{GroupJournal, JournalFault, Recorder, Unrecorded};
 use keepers::Bounds;
 use line_server::{Alarm, ServeFault, Served, Server};
 use program_arguments::{Ahead, ListenAddress, ServeOptions};
 use program_commands::{
-    Ending, tell_failed_journal, tell_full_log, tell_listening, tell_listening_at, tell_no_place,
-    tell_sealing, tell_sealing_at, tell_served, tell_usual_end,
+    Ending, tell_failed_base, tell_failed_journal, tell_full_log, tell_listening,
+    tell_listening_at, tell_no_place, tell_sealing, tell_sealing_at, tell_served, tell_usual_end,
 };
 use std::marker::Brand;
 use std::sync::Wait;
@@ -26,15 +28,20 @@ use std::thread::Threads;
 use std::time::Duration;
 use std::{fs, io, time};
 
-// Reports a full history on standard error.
+// Reports on standard error what an operator should know of. The folder is that of the journal, if there is one.
 #[derive(Drop)]
-struct FullLog<'a> {
+struct Warnings<'a> {
     rt: &'a HostRuntime,
+    folder: &'a str,
 }
 
-impl Alarm for FullLog<'_> {
+impl Alarm for Warnings<'_> {
     fn log_is_full(&self) {
         tell_full_log(self.rt);
+    }
+
+    fn base_failed(&self, fault: JournalFault) {
+        tell_failed_base(self.rt, self.folder, fault);
     }
 }
 
@@ -222,7 +229,7 @@ fn serve_clients<R: Threads + Wait + time::Clock + Sync>(
         texts: options.texts,
         page_limit: Some(options.page_limit),
     };
-    match new_fetcher(host, ways, &options.contact) {
+    match new_noting_fetcher(host, ways, &options.contact) {
         Ok(fetcher) => {
             let http = entrances.http.map(HttpPlace::entrance);
             let server = Server {
@@ -233,7 +240,10 @@ fn serve_clients<R: Threads + Wait + time::Clock + Sync>(
                 http: http.as_ref(),
                 fetcher: &fetcher,
                 clock: &clock_of(rt, host, &begun.book),
-                alarm: &FullLog { rt: host },
+                alarm: &Warnings {
+                    rt: host,
+                    folder: folder_of(&journal),
+                },
                 workers: options.workers,
                 connections: options.connections,
                 patience: Duration::from_secs(options.patience),
@@ -278,9 +288,13 @@ fn run_server<
     requires book { IsIdle begun.book }
     requires blanks { blanks ≡ G.ledgers }
 {
-    let JournalStart { book, sites } = begun;
+    let JournalStart { book, sites, first } = begun;
     let (gate, receipts) = GateLock::<G>::resume(server.alloc, book, blanks);
-    let past = Past { receipts, sites };
+    let past = Past {
+        receipts,
+        sites,
+        first,
+    };
     match journal {
         Some(journal) => run_with_journal(host, options, server, &gate, past, journal),
         None => run_and_tell(host, options, server, &gate, past, &Unrecorded),
@@ -315,7 +329,7 @@ fn run_with_journal<
         rt: server.rt,
         shared: gate.shared(),
     };
-    match GroupJournal::begin(server.alloc, &chronicle, folder, sync, room) {
+    match GroupJournal::begin(server.alloc, &chronicle, folder, sync, room, past.first) {
         Ok(journal) => {
             let ending = run_and_tell(host, options, server, gate, past, &journal);
             match journal.fault(server.rt) {
@@ -348,7 +362,11 @@ fn run_and_tell<
     warn_of_usual_end(host, options.connections);
     match tell_places(host, options, server) {
         Ending::Done => {
-            let Past { receipts, sites } = past;
+            let Past {
+                receipts,
+                sites,
+                first: _,
+            } = past;
             let end = server.run(gate, receipts, sites.as_slice(), journal);
             ending(host, end)
         }

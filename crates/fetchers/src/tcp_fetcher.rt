@@ -195,6 +195,16 @@ impl<R: Net<Stream = TcpStream> + time::Clock> TcpFetcher<R> {
         TcpFetcher { closed_for, ..self }
     }
 
+    /// This fetcher, whose meter begins anew and notes what closed sites.
+    pub fn noting_causes(self) -> Result<TcpFetcher<R>, AllocError>
+    where
+        R: Drop,
+        ensures { IfOk result (λ fetcher. fetcher ≡ self) }
+    {
+        let meter = FetchMeter::with_notes(self.alloc)?;
+        Ok(TcpFetcher { meter, ..self })
+    }
+
     // Fetches a page under a crawler's agent, with the contact after it.
     fn fetch_under(
         &self,
@@ -296,7 +306,7 @@ impl<R: Net<Stream = TcpStream> + time::Clock> Fetcher for TcpFetcher<R> {
         ensures { Tells None robots_limit result }
     {
         let Some(deadline) = time else {
-            self.meter.note_robots(&Err(WireFault::Device));
+            self.meter.note_robots(&Err(WireFault::Device), None);
             leave.spend();
             return Err(WireFault::Device);
         };
@@ -308,7 +318,7 @@ impl<R: Net<Stream = TcpStream> + time::Clock> Fetcher for TcpFetcher<R> {
             limit: ROBOTS_LIMIT,
         };
         let given = self.client.fetch_by(self.alloc, &page, deadline, failure);
-        self.meter.note_robots(&given);
+        self.meter.note_robots(&given, *failure);
         leave.spend();
         given
     }

@@ -1,6 +1,6 @@
 -- Text that follows earlier text: together they are the text of the history.
 -- Used by `spelling`.
-use Rattle.std.specs.Prelude.{◌≡◌, ℕ, ◌-◌, ◌<◌, ◌≤◌, List, [], ◌++◌, length, take, drop, Result, Ok, Err, ⊤}
+use Rattle.std.specs.Prelude.{◌≡◌, ℕ, ◌+◌, ◌-◌, ◌<◌, ◌≤◌, List, [], ◌++◌, length, take, drop, Result, Ok, Err, ⊤}
 use Rattle.gate_history.specs.declared.entry.Entry.{Entry}
 use Rattle.gate_history.specs.Segment.{Sealed}
 use Rattle.gate_core.specs.declared.refusal.NoMemory.{NoMemory}
@@ -44,16 +44,34 @@ abbrev pub PartOf : Result Sealed NoMemory → JournalPosition → List ℕ → 
 PartOf (Ok s) place text next = SpellsTo place s text next × (spelled_count next < length s.entries)
 PartOf (Err refusal) place text next = ⊥
 
--- the text ends what a seal handed out; there is none if nothing was sealed
-abbrev pub EndsFile : Result Sealed NoMemory → JournalPosition → List ℕ → Type 0
-EndsFile (Ok s) place text = Follows place s text
-EndsFile (Err refusal) place text = ⊥
+-- the place after a segment's entries, where the next file begins
+abbrev pub place_after : Sealed → JournalPosition
+place_after s = record { begun = s.base.entries + length s.entries; spelled = s.base.entries + length s.entries }
+
+-- the text ends the segment's, and the next file begins after its entries
+abbrev pub Ends : Sealed → JournalPosition → List ℕ → JournalPosition → Type 0
+Ends s place text next = Follows place s text × (next ≡ place_after s)
+
+-- the text ends what a seal handed out, and the next file begins there; there is none if nothing was sealed
+abbrev pub EndsFile : Result Sealed NoMemory → JournalPosition → List ℕ → JournalPosition → Type 0
+EndsFile (Ok s) place text next = Ends s place text next
+EndsFile (Err refusal) place text next = ⊥
+
+-- how many entries precede what a seal handed out
+abbrev pub BaseNumber : Result Sealed NoMemory → ℕ → Type 0
+BaseNumber (Ok s) entries = entries ≡ s.base.entries
+BaseNumber (Err refusal) entries = ⊥
+
+-- the text of what stood before what a seal handed out: that of a segment without entries
+abbrev pub BaseText : Result Sealed NoMemory → List ℕ → Type 0
+BaseText (Ok s) text = text ≡ spell_segment (record { base = s.base; entries = [] })
+BaseText (Err refusal) text = ⊥
 
 -- what a file lacks of a segment with entries: a part of them, behind which some are left, or all up to its end
 abbrev pub IsRestIn : JournalPosition → Sealed → Rest → Type 0
 IsRestIn place s (Nothing memory) = ⊥
 IsRestIn place s (Part text next) = SpellsTo place s text.items next × (spelled_count next < length s.entries)
-IsRestIn place s (Last text) = Follows place s text.items
+IsRestIn place s (Last text next) = Ends s place text.items next
 
 -- a seal handed out no entry
 abbrev pub HandsNothing : Result Sealed NoMemory → Type 0

@@ -3,8 +3,8 @@
 ghost use Rattle.std.specs.Prelude.{◌≡◌, IfOk};
 ghost use Rattle.gate_lock.specs.Desks.{IsNew, out_of, receipt_of};
 
-use crate::spelling::rest_of;
-use counted_io::Output;
+use crate::spelling::{base_entries_of, rest_of, write_base_of};
+use counted_io::{DeviceFault, Output, Sink};
 use gate_core::NoMemory;
 use gate_history::Segment;
 use gate_lock::{Desk, DesksFull, Gate, GateLock, Receipts};
@@ -44,7 +44,7 @@ impl<'a, 'g, G: Gate, R: Wait> DeskSealer<'a, 'g, G, R> {
 
 impl<'a, 'g, G: Gate, R: Wait> Sealer for DeskSealer<'a, 'g, G, R> {
     ghost use Rattle.gate_lock.specs.Steps.{DeskSeals, Somewhere};
-    ghost use Rattle.gate_journal.specs.Follows.{EndsFile, HandsNothing, PartOf};
+    ghost use Rattle.gate_journal.specs.Follows.{BaseNumber, BaseText, EndsFile, HandsNothing, PartOf};
 
     type Sealed = Result<Segment, NoMemory>;
 
@@ -57,6 +57,10 @@ impl<'a, 'g, G: Gate, R: Wait> Sealer for DeskSealer<'a, 'g, G, R> {
 
     ghost nothing = { HandsNothing };
 
+    ghost numbers = { BaseNumber };
+
+    ghost bases = { BaseText };
+
     fn seal(&mut self) -> Result<Segment, NoMemory> {
         self.desk.seal(self.rt)
     }
@@ -68,5 +72,17 @@ impl<'a, 'g, G: Gate, R: Wait> Sealer for DeskSealer<'a, 'g, G, R> {
         room: Vec<u8>,
     ) -> Result<Rest, JournalFault> {
         rest_of(sealed, output, place, room)
+    }
+
+    fn base_entries(sealed: &Result<Segment, NoMemory>) -> Option<u64> {
+        base_entries_of(sealed)
+    }
+
+    fn write_base<W: Sink>(
+        sealed: &Result<Segment, NoMemory>,
+        output: &mut Output,
+        sink: &mut W,
+    ) -> Result<(), DeviceFault> {
+        write_base_of(sealed, output, sink)
     }
 }

@@ -15,4 +15,4 @@ pub use crate::laws::a_crash_leaves_lines;
 pub use crate::recording::Recording;
 pub use crate::resume_fault::ResumeFault;
 pub use crate::resuming::{MOST_CLOSED, Resumed, resume};
-pub use crate::spelling::rest_of;
+pub use crate::spelling::{base_entries_of, rest_of, write_base_of};

@@ -1,6 +1,6 @@
 //! A locked gate, for a journal.
-//! The lock is held while entries are formatted, not while they are written; and while the text that begins a
-//! file is written, which is not held in memory, but not until a crash keeps it.
+//! The lock is held while entries are formatted, not while they are written. It is held while the text that
+//! begins a first file is written, which is not held in memory; no later file has such a text.
 ghost use Rattle.std.specs.Prelude.{◌≡◌, []};
 ghost use Rattle.gate_journal.specs.Recorded.{BeginsWith, OfSome, SpellsUpTo, place_of};
 

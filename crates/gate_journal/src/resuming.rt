@@ -1,4 +1,4 @@
-//! A book that continues a journal's last file, and what ends that file's text.
+//! A book that continues a journal's last files, and what ends their text.
 //! docs/FORMATS.md has the texts; RFC 9309, sections 2.3.1 and 2.4.
 ghost use Rattle.std.specs.Prelude.{◌≡◌, List, [], Some, ℕ, IfOk, OnOk};
 ghost use Rattle.gate_core.specs.Limits.{AreLimits};
@@ -37,7 +37,7 @@ pub struct Resumed {
     pub begun: Vec<Authority>,
 }
 
-/// Reads the text of a journal's last file with sites of these schemes, and makes the book with these
+/// Reads the text of a journal's last files with sites of these schemes, and makes the book with these
 /// limits that continues it. The tables of both get these keys.
 pub fn resume<R: Source>(
     alloc: Global,

@@ -1,18 +1,20 @@
 //! Parts of a history as texts in memory.
 //! See docs/FORMATS.md.
-ghost use Rattle.std.specs.Prelude.{◌≡◌, [], IfOk, IfSome, OnOk};
+ghost use Rattle.std.specs.Prelude.{◌≡◌, [], IfOk, IfSome, None, OnOk};
 ghost use Rattle.std.specs.Io.KnownBytes.{Appends};
 ghost use Rattle.history_text.specs.declared.version.Version.TheVariants.{Two};
 ghost use Rattle.history_text.specs.Spell.{entry_lines};
+ghost use Rattle.journal.specs.Shelves.{WritesSome};
 ghost use Rattle.journal.specs.Writing.{IsRest};
-ghost use Rattle.gate_journal.specs.Follows.{AreBehind, EndsFile, Follows, HandsNothing, IsRestIn, PartOf};
+ghost use Rattle.gate_journal.specs.Follows.{AreBehind, BaseNumber, BaseText, EndsFile, Follows, HandsNothing, IsRestIn, PartOf};
 
 use crate::pieces::next_piece;
 use counted_io::{Counted, DeviceFault, Output, Sink};
 use gate_core::NoMemory;
 use gate_history::{Base, Entry, Segment};
-use history_text::push_entries;
+use history_text::{export_base, push_entries};
 use journal::{JournalFault, JournalPosition, Rest};
+use std::io;
 
 /// What a journal's file lacks of what a seal handed out, in the memory of `room`: no more than a piece. It
 /// fails if the room is too small and memory runs out, or if the segment does not continue at the place.
@@ -52,10 +54,43 @@ fn rest_in(
 {
     let (text, next) = next_piece(base, entries, output, place, room)?;
     if (next.spelled - next.begun) as usize == entries.len() {
-        Ok(Rest::Last(text))
+        Ok(Rest::Last(text, JournalPosition::after(next.spelled)))
     } else {
         Ok(Rest::Part(text, next))
     }
+}
+
+/// How many entries precede what a seal handed out; none if it handed out no entry.
+pub fn base_entries_of(sealed: &Result<Segment, NoMemory>) -> Option<u64>
+    ensures number { IfSome result (BaseNumber sealed.now) }
+    ensures none { result ≡ None → HandsNothing sealed.now }
+{
+    match sealed {
+        // (an empty segment has no base of its own)
+        Ok(segment) if segment.entries().is_empty() => None,
+        Ok(segment) => Some(segment.base().entries()),
+        Err(_) => None,
+    }
+}
+
+/// Writes the text of the base before what a seal handed out. It takes no memory.
+pub fn write_base_of<W: Sink>(
+    sealed: &Result<Segment, NoMemory>,
+    output: &mut Output,
+    sink: &mut W,
+) -> Result<(), DeviceFault>
+    requires { output.old ≡ [] }
+    ensures writes { OnOk result
+        (WritesSome (BaseText sealed.now) (W.written sink.old) (W.written sink.new)) }
+    ensures idle { output.new ≡ [] }
+{
+    let written = match sealed {
+        Ok(segment) => export_base(segment.base(), output, sink),
+        Err(_) => Err(DeviceFault),
+    };
+    // (nothing is pending behind an export: this says so)
+    let _ = output.flush(&mut Counted::new(io::sink()));
+    written
 }
 
 /// The lines of a segment's entries after a place.

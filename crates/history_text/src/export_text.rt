@@ -1,6 +1,6 @@
 //! The export: a segment of a history, or the present one of a book, as a text of version 2 or 3.
 //! See docs/FORMATS.md.
-ghost use Rattle.std.specs.Prelude.{◌≡◌, ◌++◌, ◌<◌, All, OnErr, OnOk};
+ghost use Rattle.std.specs.Prelude.{◌≡◌, ◌++◌, ◌<◌, [], All, OnErr, OnOk};
 ghost use Rattle.std.specs.Io.KnownBytes.{Appends};
 ghost use Rattle.counted_io.specs.Device.{AppendsPrefix, failures_after};
 ghost use Rattle.counted_io.specs.Output.{Pushes};
@@ -51,6 +51,23 @@ pub fn export_segment<W: Sink>(
     ensures segment { OnOk result (IsSegmentText segment.now) }
 {
     push_segment(segment.base(), segment.entries(), output, sink)?;
+    output.flush(sink)
+}
+
+/// Like `export`, for a base without entries: what the text of a segment after it begins with. Takes no memory.
+/// After a fault a prefix was written, and nothing is pending.
+pub fn export_base<W: Sink>(
+    base: &Base,
+    output: &mut Output,
+    sink: &mut W,
+) -> Result<(), DeviceFault>
+    ensures ok { OnOk result (Appends (W.written sink.old) (W.written sink.new)
+        (output.old ++ spell_segment (record { base = base.now; entries = [] }))) }
+    ensures err { OnErr result (AppendsPrefix (W.written sink.old) (W.written sink.new)
+        (output.old ++ spell_segment (record { base = base.now; entries = [] }))) }
+    ensures count { W.failures sink.new ≡ failures_after (W.failures sink.old) result }
+{
+    push_segment(base, &[], output, sink)?;
     output.flush(sink)
 }
 

@@ -12,6 +12,6 @@ mod text_line;
 mod version;
 
 pub use entry_pieces::told_by;
-pub use export_text::{export, export_segment, push_entries, push_segment_text};
+pub use export_text::{export, export_base, export_segment, push_entries, push_segment_text};
 pub use text_line::{TextLine, standing_pieces};
 pub use version::Version;

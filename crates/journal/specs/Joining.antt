@@ -1,38 +1,63 @@
--- Two texts that are read as one, and where a line of both is.
+-- Texts that are read as one, and where a line of all is.
 -- Used by `Joined`.
-use Rattle.std.specs.Prelude.{ℕ, ◌+◌, ◌-◌, ◌^◌, List, Option, None, Some, if◌then◌else◌, min, nat_le}
-use Rattle.std.specs.Io.KnownBytes.{prepend_known}
+use Rattle.std.specs.Prelude.{◌≡◌, ℕ, ◌+◌, ◌-◌, List, [], ◌∷◌, length, drop, Option, None, Some, if◌then◌else◌, nat_le}
+use Rattle.std.specs.Io.KnownBytes.{IsAtEnd, Keeps, prepend_known}
 use Rattle.journal.specs.declared.joined.Joined.{Joined}
 use Rattle.journal.specs.declared.joined.JoinedLine.{JoinedLine}
-use Rattle.journal.specs.declared.joined.JoinedLine.TheVariants.{Before, Last}
-use Rattle.journal.specs.declared.joined.TextRead.{TextRead}
+use Rattle.journal.specs.declared.joined.PartRead.{PartRead}
+use Rattle.journal.specs.Reading.{line_count}
 
--- the octets of one text and then those of another, where they are known
+-- the octets of one text and then those of others, where they are known
 abbrev pub then_known : Option (List ℕ) → Option (List ℕ) → Option (List ℕ)
 then_known None behind = None
 then_known (Some octets) behind = prepend_known octets behind
 
--- the octets of both texts, or of the second alone
-abbrev pub both_left : {A B : Type 0} → (A → Option (List ℕ)) → (B → Option (List ℕ)) → Option A → B
-    → Option (List ℕ)
-both_left first second None last = second last
-both_left first second (Some before) last = then_known (first before) (second last)
+-- the octets of texts in order
+abbrev pub places_left : {P : Type 0} → (P → Option (List ℕ)) → List P → Option (List ℕ)
+places_left octets [] = Some []
+places_left octets (place ∷ places) = then_known (octets place) (places_left octets places)
 
--- the octets of both texts that are not read
-abbrev pub left_of : {A B : Type 0} → (A → Option (List ℕ)) → (B → Option (List ℕ)) → Joined A B
-    → Option (List ℕ)
-left_of first second j = both_left first second j.before j.last
+-- the octets that are not read of the open text, if one is open
+abbrev pub open_left : {T : Type 0} → (T → Option (List ℕ)) → Option T → Option (List ℕ)
+open_left remaining None = Some []
+open_left remaining (Some text) = remaining text
 
--- of so many octets of both texts, those of the second: none before the first was read to its end
-abbrev pub own_octets : {A : Type 0} → Option A → ℕ → ℕ → Option ℕ
-own_octets (Some before) read octets = None
-own_octets None read octets = if nat_le octets read then None else Some (octets - read)
+-- how many texts were opened, where these many were read to their end
+abbrev pub opened_behind : {T : Type 0} → ℕ → Option T → ℕ
+opened_behind count None = count
+opened_behind count (Some text) = count + 1
 
--- the text of which a line of both is, and its number there: the first text's until that was read to its end
-abbrev pub own_line : {A : Type 0} → Option A → ℕ → ℕ → JoinedLine
-own_line (Some before) lines line = Before line
-own_line None lines line = if nat_le line lines then Before line else Last (line - lines)
+-- how many texts were opened
+abbrev pub opened : {P T : Type 0} → Joined P T → ℕ
+opened j = opened_behind (length j.reads.items) j.text
 
--- the lines of the first text that were read, with a last one that has no line feed
-abbrev pub line_count : TextRead → ℕ
-line_count read = min (read.lines + (if read.is_torn then 1 else 0)) (2 ^ 64 - 1)
+-- the octets that are not read of all texts
+abbrev pub left_of : {P T : Type 0} → (P → Option (List ℕ)) → (T → Option (List ℕ)) → Joined P T → Option (List ℕ)
+left_of octets remaining j =
+    then_known (open_left remaining j.text) (places_left octets (drop (opened j) j.places.items))
+
+-- the next text was opened; where none of the open one was left, all of the others is
+pub record GoesOn {P T : Type 0} (octets : P → Option (List ℕ)) (remaining : T → Option (List ℕ))
+    (old new : Joined P T) : Type 0 where
+  pub left : IsAtEnd (open_left remaining old.text)
+      → Keeps (left_of octets remaining old) (left_of octets remaining new)
+  pub more : opened new ≡ opened old + 1
+  pub places : new.places ≡ old.places
+
+-- the text of which a line of all is, counted on, and its number there: behind those of these texts it is another's
+abbrev pub own_line : ℕ → List PartRead → ℕ → JoinedLine
+own_line part [] line = record { part = part; line = line }
+own_line part (read ∷ reads) line =
+    if nat_le line (line_count read.text) then record { part = part; line = line }
+    else own_line (part + 1) reads (line - line_count read.text)
+
+-- of so many octets of these texts and another one, those of that one: none if they end before it
+abbrev pub octets_behind : List PartRead → ℕ → Option ℕ
+octets_behind [] octets = Some octets
+octets_behind (read ∷ reads) octets =
+    if nat_le read.octets octets then octets_behind reads (octets - read.octets) else None
+
+-- of so many octets of all texts, those of the last one: none before it was opened
+abbrev pub own_octets : {P T : Type 0} → Joined P T → ℕ → Option ℕ
+own_octets j octets =
+    if nat_le (length j.places.items) (opened j) then octets_behind j.reads.items octets else None

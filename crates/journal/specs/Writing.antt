@@ -33,23 +33,34 @@ pub record Begins (begins : List ℕ → JournalPosition → Type 0) (new : Writ
   pub has : HasHead new.noted.written new.noted.kept head
   pub works : new.noted.failed ≡ false
 
--- such a text ended the last file, and the next one was begun
-pub record TurnsOver (Ends : List ℕ → Type 0) (begins : List ℕ → JournalPosition → Type 0)
-    (old new : Written) : Type 0 where
+-- a file without a text was begun at this place
+pub record BeginsLog (next : JournalPosition) (new : Written) : Type 0 where
+  pub place : new.place ≡ next
+  pub has : HasHead new.noted.written new.noted.kept []
+  pub works : new.noted.failed ≡ false
+
+-- a first file was begun with such a text, or without one
+abbrev pub BeginsFirst : (List ℕ → JournalPosition → Type 0) → Written → Type 0
+BeginsFirst begins new =
+    Begins begins new ⊎ BeginsLog (record { begun = new.place.begun; spelled = new.place.begun }) new
+
+-- such a text ended the last file, a crash keeps it, and the next one was begun where it ends
+pub record TurnsOver (Ends : List ℕ → JournalPosition → Type 0) (old new : Written) : Type 0 where
   pub ended : Written
-  pub ends : WritesText Ends old ended true
-  pub next : Begins begins new
+  pub next : JournalPosition
+  pub ends : WritesText (λ text. Ends text next) old ended true
+  pub begun : BeginsLog next new
 
 -- what a file lacks of what was sealed: nothing, since nothing was; or some entries' text, and its end; or the text
--- that ends it
-abbrev pub IsRest : (List ℕ → JournalPosition → Type 0) → (List ℕ → Type 0) → Type 0 → Rest → Type 0
+-- that ends it, and where the next one begins
+abbrev pub IsRest : (List ℕ → JournalPosition → Type 0) → (List ℕ → JournalPosition → Type 0) → Type 0 → Rest → Type 0
 IsRest parts Ends NothingSealed (Nothing memory) = NothingSealed × (memory.items ≡ [])
 IsRest parts Ends NothingSealed (Part text place) = parts text.items place
-IsRest parts Ends NothingSealed (Last text) = Ends text.items
+IsRest parts Ends NothingSealed (Last text next) = Ends text.items next
 
 -- some of what was sealed was written; or a file was turned over; or nothing was sealed, and nothing changed
-abbrev pub Turns : (List ℕ → JournalPosition → Type 0) → (List ℕ → Type 0) → Type 0
-    → (List ℕ → JournalPosition → Type 0) → Written → Written → Turned → Type 0
-Turns parts Ends NothingSealed begins old new turned.Part = WritesText (λ text. parts text new.place) old new false
-Turns parts Ends NothingSealed begins old new turned.Done =
-    TurnsOver Ends begins old new ⊎ (NothingSealed × (new ≡ old))
+abbrev pub Turns : (List ℕ → JournalPosition → Type 0) → (List ℕ → JournalPosition → Type 0) → Type 0
+    → Written → Written → Turned → Type 0
+Turns parts Ends NothingSealed old new turned.Part = WritesText (λ text. parts text new.place) old new false
+Turns parts Ends NothingSealed old new turned.Done =
+    TurnsOver Ends old new ⊎ (NothingSealed × (new ≡ old))

@@ -1,7 +1,7 @@
 //! What a journal records: a growing list of entries, and their text.
 //! A locked gate is a chronicle. Texts are formatted through an empty output.
-ghost use Rattle.std.specs.Prelude.{◌≡◌, [], IfOk};
-ghost use Rattle.journal.specs.Shelves.{WritesHead};
+ghost use Rattle.std.specs.Prelude.{◌≡◌, [], IfOk, IfSome, None, OnOk};
+ghost use Rattle.journal.specs.Shelves.{WritesHead, WritesSome};
 ghost use Rattle.journal.specs.Writing.{IsRest};
 
 use crate::fault::JournalFault;
@@ -67,8 +67,8 @@ pub enum Rest {
     Nothing(Vec<u8>),
     /// The text of some entries and its end: others follow.
     Part(Vec<u8>, JournalPosition),
-    /// The text that ends the file.
-    Last(Vec<u8>),
+    /// The text that ends the file, and the place where the next one begins.
+    Last(Vec<u8>, JournalPosition),
 }
 
 /// Ends the entries of one file, so that the next file continues from them: a gate's desk seals in this
@@ -86,11 +86,17 @@ pub trait Sealer {
     /// Holds of a seal's result, a place, the text of some entries after it, and where that ends.
     ghost parts: { Self.Sealed → JournalPosition → List ℕ → JournalPosition → Type 0 };
 
-    /// Holds of a seal's result, a place, and the text after it that ends the file.
-    ghost ends: { Self.Sealed → JournalPosition → List ℕ → Type 0 };
+    /// Holds of a seal's result, a place, the text after it that ends the file, and the next file's place.
+    ghost ends: { Self.Sealed → JournalPosition → List ℕ → JournalPosition → Type 0 };
 
     /// Holds of the result of a seal that sealed nothing.
     ghost nothing: { Self.Sealed → Type 0 };
+
+    /// Holds of a seal's result, and how many entries precede those that it sealed.
+    ghost numbers: { Self.Sealed → ℕ → Type 0 };
+
+    /// Holds of a seal's result, and the text of what stood before the entries that it sealed: their base.
+    ghost bases: { Self.Sealed → List ℕ → Type 0 };
 
     /// Seals.
     fn seal(&mut self) -> Self::Sealed
@@ -108,5 +114,22 @@ pub trait Sealer {
         requires empty { room.items ≡ [] }
         ensures rest { IfOk result
             (IsRest (parts sealed.now place) (ends sealed.now place) (nothing sealed.now)) }
+        ensures idle { output.new ≡ [] };
+
+    /// How many entries precede those that were sealed: the number of the base before them. There is none if
+    /// nothing was sealed.
+    fn base_entries(sealed: &Self::Sealed) -> Option<u64>
+        ensures number { IfSome result (numbers sealed.now) }
+        ensures none { result ≡ None → nothing sealed.now };
+
+    /// Writes the text of the base before what was sealed. It takes no memory.
+    fn write_base<W: Sink>(
+        sealed: &Self::Sealed,
+        output: &mut Output,
+        sink: &mut W,
+    ) -> Result<(), DeviceFault>
+        requires { output.old ≡ [] }
+        ensures writes { OnOk result
+            (WritesSome (bases sealed.now) (W.written sink.old) (W.written sink.new)) }
         ensures idle { output.new ≡ [] };
 }

@@ -1,5 +1,5 @@
 //! What is left of an earlier process's last file, and the text that ends it: all of that text or none of it.
-//! Used by `LastFile`.
+//! Used by `LastFiles`.
 ghost use Rattle.std.specs.Prelude.{◌≡◌, OnOk, OnErr};
 ghost use Rattle.std.specs.Io.KnownBytes.{Appends};
 ghost use Rattle.counted_io.specs.Device.{AppendsPrefix, failures_after};

@@ -25,6 +25,12 @@ impl FilesRoom {
         self.limit.is_some()
     }
 
+    pub fn limit(&self) -> Option<u64>
+        ensures { result ≡ self.now.limit }
+    {
+        self.limit
+    }
+
     /// Whether entries may come.
     pub fn is_left(&self) -> bool
         ensures { IsTrue result ↔ HasRoom self.now }

@@ -1,14 +1,18 @@
 //! `Folder`: a folder with a journal's files, for one process at a time.
-//! A file gets its name only once it has its whole base.
+//! A file with a base gets its name only once it has the whole base. A log has its name from the beginning.
 use crate::chronicle::Chronicle;
 use crate::fault::{FolderFault, JournalFault, fault_of};
 use crate::file_tape::FileTape;
+use crate::folder_bases::FolderBases;
+use crate::folder_files::{look_at, make_new, open_empty, remove_if_there};
 use crate::folder_names::{NameKind, kind_of};
-use crate::last_file::LastFile;
+use crate::found_names::{FoundNames, find_names, is_unread};
+use crate::last_files::{FilePlace, LastFiles};
 use crate::meter::JournalMeter;
 use crate::metered_tape::{MeteredTape, time_since};
-use crate::names::{LOCK_NAME, NEW_NAME, file_name, path_in};
-use crate::regular::{leads_to, open_regular};
+use crate::names::{LOCK_NAME, NEW_NAME, file_name, log_name, path_in};
+use crate::position::JournalPosition;
+use crate::regular::open_regular;
 use crate::shelf::{BegunFile, Shelf};
 use crate::writing::NewFile;
 use counted_io::{DeviceFault, Output};
@@ -23,17 +27,6 @@ use std::{fs, io};
 // A folder that is made is its owner's alone.
 const FOLDER_MODE: u32 = 0o700;
 
-// The names in a folder that a start needs.
-#[derive(Drop)]
-struct FoundNames {
-    // The greatest names of a journal's files, if any.
-    last: Option<String>,
-    before: Option<String>,
-    // Those that are not a journal's, and how many further ones are no UTF-8.
-    foreign: Vec<String>,
-    unread: u64,
-}
-
 /// A folder, and this process's lock on it, released on drop.
 #[derive(Drop)]
 pub struct Folder<R> {
@@ -43,7 +36,7 @@ pub struct Folder<R> {
     // The folder itself, whatever its name leads to later.
     home: File,
     lock: File,
-    // The names of its last files at the start.
+    // The names in it at the start.
     names: FoundNames,
     meter: Arc<JournalMeter>,
 }
@@ -70,16 +63,30 @@ impl<R: Files<File = File> + AllocGlobal + Clock + Clone + Drop> Folder<R> {
         })
     }
 
-    /// The last file when it was opened, from whose text a journal continues, if any, and the one before it.
-    /// An incomplete file doesn't count; the next one replaces it.
-    pub fn last_file(&self) -> Result<Option<LastFile>, FolderFault> {
-        match self.path_of(&self.names.last)? {
-            Some(last) => {
-                let before = self.path_of(&self.names.before)?;
-                Ok(Some(LastFile::open(&self.rt, self.alloc, last, before)?))
-            }
-            None => Ok(None),
+    /// The last files when it was opened, from whose texts a journal continues, if there is one: those from the
+    /// last base but one on. An incomplete file doesn't count; the next one replaces it.
+    pub fn last_files(&self) -> Result<Option<LastFiles<R>>, FolderFault> {
+        let names = self.names.last();
+        if names.is_empty() {
+            return Ok(None);
         }
+        let mut places = Vec::new(self.alloc);
+        places.reserve(names.len())?;
+        for name in names {
+            places
+                .push(self.place_of(name.as_str())?)
+                .map_err(AllocError::from)?;
+        }
+        Ok(Some(LastFiles::new(self.alloc, places)?))
+    }
+
+    fn place_of(&self, name: &str) -> Result<FilePlace<R>, FolderFault> {
+        Ok(FilePlace {
+            rt: self.rt.clone()?,
+            alloc: self.alloc,
+            path: path_in(self.alloc, self.path.as_str(), name)?,
+            kind: kind_of(name),
+        })
     }
 
     /// The names that were there when it was opened and are not a journal's.
@@ -92,21 +99,18 @@ impl<R: Files<File = File> + AllocGlobal + Clock + Clone + Drop> Folder<R> {
         self.names.unread
     }
 
-    fn path_of(&self, name: &Option<String>) -> Result<Option<String>, AllocError> {
-        match name {
-            Some(name) => Ok(Some(path_in(self.alloc, self.path.as_str(), name.as_str())?)),
-            None => Ok(None),
-        }
-    }
-
-    // Makes a file with a temporary name.
-    fn make_new(&self) -> io::Result<File> {
-        let new = path_in(self.alloc, self.path.as_str(), NEW_NAME)?;
-        remove_if_there(&self.rt, new.as_str())?;
-        File::options()
-            .write(true)
-            .create_new(true)
-            .open(&self.rt, new.as_str())
+    // Makes a log, or takes up one without octets.
+    fn make_log(&self, entries: u64) -> io::Result<MeteredTape<FileTape<File>, R>> {
+        let name = log_name(self.alloc, entries)?;
+        let path = path_in(self.alloc, self.path.as_str(), name.as_str())?;
+        let file = open_empty(&self.rt, self.alloc, path.as_str())?;
+        // A synced folder keeps its names in a crash.
+        self.home.sync_all()?;
+        Ok(MeteredTape {
+            tape: FileTape::new(file),
+            meter: self.meter.clone()?,
+            rt: self.rt.clone()?,
+        })
     }
 
     // Waits until a crash keeps the new file.
@@ -119,9 +123,22 @@ impl<R: Files<File = File> + AllocGlobal + Clock + Clone + Drop> Folder<R> {
         Ok(tape)
     }
 
+    // Removes a log after so many entries, if it has no octet: entries follow in the file that gets its number.
+    fn leave_out_log(&self, entries: u64) -> io::Result<()> {
+        let name = log_name(self.alloc, entries)?;
+        let path = path_in(self.alloc, self.path.as_str(), name.as_str())?;
+        match fs::symlink_metadata(&self.rt, path.as_str()) {
+            Ok(about) if about.len() == 0 => remove_if_there(&self.rt, path.as_str()),
+            Ok(_) => Err(io::Error::from(ErrorKind::AlreadyExists)),
+            Err(cause) if cause.kind() == ErrorKind::NotFound => Ok(()),
+            Err(cause) => Err(cause),
+        }
+    }
+
     // Waits until a crash keeps the new file, and then gives it its name.
     fn name_new(&self, file: NewFile, entries: u64) -> io::Result<MeteredTape<FileTape<File>, R>> {
         let tape = self.keep_new(file)?;
+        self.leave_out_log(entries)?;
         let new = path_in(self.alloc, self.path.as_str(), NEW_NAME)?;
         let name = file_name(self.alloc, entries)?;
         let name = path_in(self.alloc, self.path.as_str(), name.as_str())?;
@@ -139,13 +156,15 @@ impl<R: Files<File = File> + AllocGlobal + Clock + Clone + Drop> Folder<R> {
 impl<R: Files<File = File> + AllocGlobal + Clock + Clone + Drop> Shelf for Folder<R> {
     type Tape = MeteredTape<FileTape<File>, R>;
 
+    type Bases = FolderBases<R>;
+
     fn put_up<H: Chronicle>(
         &mut self,
         chronicle: &H,
         output: &mut Output,
     ) -> Result<BegunFile<MeteredTape<FileTape<File>, R>>, JournalFault> {
         self.look()?;
-        let mut file = NewFile::new(self.make_new());
+        let mut file = NewFile::new(make_new(&self.rt, self.alloc, self.path.as_str()));
         let place = match chronicle.begin(output, &mut file) {
             Ok(place) => place,
             Err(DeviceFault) => return Err(JournalFault::Device(None)),
@@ -161,6 +180,41 @@ impl<R: Files<File = File> + AllocGlobal + Clock + Clone + Drop> Shelf for Folde
         }
     }
 
+    fn put_log(
+        &mut self,
+        entries: u64,
+    ) -> Result<BegunFile<MeteredTape<FileTape<File>, R>>, JournalFault> {
+        self.look()?;
+        match self.make_log(entries) {
+            Ok(tape) => Ok(BegunFile {
+                tape,
+                place: JournalPosition::after(entries),
+                octets: 0,
+            }),
+            Err(cause) if cause.kind() == ErrorKind::OutOfMemory => Err(JournalFault::NoMemory),
+            Err(cause) => Err(JournalFault::Device(Some(cause))),
+        }
+    }
+
+    /// A base that an earlier process did not finish is removed.
+    fn bases(&self) -> Result<FolderBases<R>, JournalFault> {
+        let new = path_in(self.alloc, self.path.as_str(), NEW_NAME)?;
+        if let Err(cause) = remove_if_there(&self.rt, new.as_str()) {
+            return Err(JournalFault::Device(Some(cause)));
+        }
+        let home = match self.home.try_clone() {
+            Ok(home) => home,
+            Err(cause) => return Err(JournalFault::Device(Some(cause))),
+        };
+        Ok(FolderBases {
+            rt: self.rt.clone()?,
+            alloc: self.alloc,
+            path: self.path.clone()?,
+            home,
+            meter: self.meter.clone()?,
+        })
+    }
+
     fn octets(&self) -> Result<u64, JournalFault> {
         match octets_in(&self.rt, self.path.as_str()) {
             Ok(octets) => Ok(octets),
@@ -173,12 +227,7 @@ impl<R: Files<File = File> + AllocGlobal + Clock + Clone + Drop> Shelf for Folde
     }
 
     fn look(&self) -> Result<(), JournalFault> {
-        match leads_to(&self.rt, self.path.as_str(), &self.home) {
-            Ok(true) => Ok(()),
-            Ok(false) => Err(JournalFault::Gone),
-            Err(cause) if cause.kind() == ErrorKind::NotFound => Err(JournalFault::Gone),
-            Err(cause) => Err(JournalFault::Device(Some(cause))),
-        }
+        look_at(&self.rt, self.path.as_str(), &self.home)
     }
 }
 
@@ -193,11 +242,6 @@ fn octets_in<R: Files + AllocGlobal + Clone + Drop>(rt: &R, path: &str) -> io::R
         }
     }
     Ok(octets)
-}
-
-// Whether this is told of a name that is no UTF-8.
-fn is_unread(cause: &io::Error) -> bool {
-    cause.kind() == ErrorKind::InvalidFilename
 }
 
 // The octets of a file, if it is a journal's and was not removed meanwhile.
@@ -222,13 +266,6 @@ fn open_home<R: Files<File = File>>(rt: &R, path: &str) -> io::Result<File> {
         return Err(io::Error::from(ErrorKind::NotADirectory));
     }
     File::open(rt, path)
-}
-
-fn remove_if_there<R: Files>(rt: &R, path: &str) -> io::Result<()> {
-    match fs::remove_file(rt, path) {
-        Err(cause) if cause.kind() != ErrorKind::NotFound => Err(cause),
-        _ => Ok(()),
-    }
 }
 
 // Locks a folder, without waiting.
@@ -256,76 +293,5 @@ fn open_lock<R: Files<File = File>>(
             open_regular(rt, alloc, &how, path)
         }
         made => Ok(made?),
-    }
-}
-
-// The names in a folder, each of which is a journal's or left alone.
-fn find_names<R: Files + AllocGlobal + Clone + Drop>(
-    rt: &R,
-    path: &str,
-) -> Result<FoundNames, FolderFault> {
-    let alloc = rt.alloc();
-    let mut names = FoundNames {
-        last: None,
-        before: None,
-        foreign: Vec::new(alloc),
-        unread: 0,
-    };
-    for entry in fs::read_dir(rt, path)? {
-        match entry {
-            Ok(entry) => names.take(alloc, path, &entry)?,
-            Err(cause) if is_unread(&cause) => names.unread = names.unread.saturating_add(1),
-            Err(cause) => return Err(FolderFault::Device(cause)),
-        }
-    }
-    Ok(names)
-}
-
-impl FoundNames {
-    // Takes a name, unless it must not be in the folder.
-    fn take<R: Files + Clone + Drop>(
-        &mut self,
-        alloc: Global,
-        path: &str,
-        entry: &DirEntry<R>,
-    ) -> Result<(), FolderFault> {
-        let name = entry.file_name();
-        let kind = kind_of(name);
-        match kind {
-            NameKind::Foreign => return self.leave(String::from_str(alloc, name)?),
-            NameKind::Altered => return Err(FolderFault::Altered(path_in(alloc, path, name)?)),
-            NameKind::Numbered | NameKind::Own => {}
-        }
-        if !entry.file_type()?.is_file() {
-            return Err(FolderFault::NotRegular(path_in(alloc, path, name)?));
-        }
-        if kind == NameKind::Numbered {
-            self.add(String::from_str(alloc, name)?);
-        }
-        Ok(())
-    }
-
-    // Notes a name that is left alone.
-    fn leave(&mut self, name: String) -> Result<(), FolderFault> {
-        match self.foreign.push(name) {
-            Ok(()) => Ok(()),
-            Err(_) => Err(FolderFault::NoMemory),
-        }
-    }
-
-    // Keeps a name if it is one of the two greatest.
-    fn add(&mut self, name: String) {
-        if is_later(&name, &self.last) {
-            self.before = self.last.replace(name);
-        } else if is_later(&name, &self.before) {
-            self.before = Some(name);
-        }
-    }
-}
-
-fn is_later(name: &String, other: &Option<String>) -> bool {
-    match other {
-        Some(other) => other.as_str() < name.as_str(),
-        None => true,
     }
 }

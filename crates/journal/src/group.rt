@@ -4,6 +4,7 @@ ghost use Rattle.std.specs.Prelude.{◌≡◌, IfOk};
 
 use crate::chronicle::Chronicle;
 use crate::fault::JournalFault;
+use crate::first_file::FirstFile;
 use crate::meter::JournalMeter;
 use crate::policy::SyncPolicy;
 use crate::shelf::Shelf;
@@ -36,6 +37,14 @@ impl<S: Shelf> SharedWriter<S> {
             None => false,
         }
     }
+
+    // Whether a base is due, while no thread writes.
+    fn is_base_due(&self) -> bool {
+        match &self.writer {
+            Some(writer) => writer.is_base_due(),
+            None => false,
+        }
+    }
 }
 
 /// The octets that a file may have after its beginning before the next one begins: 64 MiB.
@@ -48,10 +57,12 @@ pub struct GroupJournal<S: Shelf> {
     // Notified when a writer is put back.
     moved: Condvar,
     policy: SyncPolicy,
-    // Whether the files have as many octets as they may.
+    // Whether the files have as many octets as they may, or as many entries since the last base.
     is_full: AtomicBool,
     // What counts what is written to the files, if anything does.
     meter: Option<Arc<JournalMeter>>,
+    // What puts bases before the files. Only who puts one waits for it.
+    pub(crate) bases: Mutex<S::Bases>,
 }
 
 impl<S: Shelf> Model for GroupJournal<S> {
@@ -73,20 +84,22 @@ pub(crate) enum WriterAccess<S: Shelf> {
 }
 
 impl<S: Shelf + Drop> GroupJournal<S> {
-    /// A journal that begins with a whole chronicle: it creates the first file. Its files may have so many
-    /// octets, if that is limited: those of the shelf's earlier files count, too. Past the limit `has_room` is
-    /// false, and all that is entered is still written.
+    /// A journal that creates the first file: with a whole chronicle, or without a text behind earlier files. Its
+    /// files may have so many octets, if that is limited: those of the shelf's earlier files count, too. Past the
+    /// limit `has_room` is false, and all that is entered is still written.
     pub fn begin<H: Chronicle>(
         alloc: Global,
         chronicle: &H,
         shelf: S,
         policy: SyncPolicy,
         limit: Option<u64>,
+        first: FirstFile,
     ) -> Result<GroupJournal<S>, JournalFault>
         ensures { IfOk result (λ journal. journal ≡ policy) }
     {
         let meter = shelf.meter()?;
-        let writer = Writer::new(alloc, chronicle, shelf, limit)?;
+        let bases = Mutex::new(shelf.bases()?);
+        let writer = Writer::new(alloc, chronicle, shelf, limit, first)?;
         Ok(GroupJournal {
             is_full: AtomicBool::new(!writer.has_room()),
             shared: Mutex::new(SharedWriter {
@@ -97,10 +110,11 @@ impl<S: Shelf + Drop> GroupJournal<S> {
             moved: Condvar::new(),
             policy,
             meter,
+            bases,
         })
     }
 
-    /// Whether the files have fewer octets than they may, as was known when they were last written, or tended
+    /// Whether the files have fewer octets than they may, and fewer than `TEXT_ENTRIES` entries since the last base, as was known when they were last written, or tended
     /// where they were full. It waits for nothing. Others may write meanwhile, so an entry that is made then may
     /// lead past the limit by what several threads enter at once.
     pub fn has_room(&self) -> bool {
@@ -160,6 +174,12 @@ impl<S: Shelf + Drop> GroupJournal<S> {
     /// if more than `FILE_OCTETS` and than the beginning has. Without room none is.
     pub fn is_due<H: Chronicle, R: Wait>(&self, rt: &R, chronicle: &H) -> bool {
         self.has_room() && (chronicle.is_due() || self.shared.lock(rt).is_long())
+    }
+
+    /// Whether a base is due, behind what is sealed first: by the entries, the files or the octets since the last
+    /// base. Without room for the files' octets none is.
+    pub fn is_base_due<R: Wait>(&self, rt: &R) -> bool {
+        self.shared.lock(rt).is_base_due()
     }
 
     /// Its sync policy.

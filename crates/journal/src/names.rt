@@ -11,6 +11,9 @@ pub(crate) const NEW_NAME: &str = ".new";
 /// The name of the file whose lock protects the folder.
 pub(crate) const LOCK_NAME: &str = ".lock";
 
+/// What the name of a log has after its digits.
+pub(crate) const LOG_END: &str = ".log";
+
 /// The digits of a file's name.
 pub(crate) const NAME_DIGITS: usize = 20;
 
@@ -24,6 +27,11 @@ pub fn file_name(alloc: Global, entries: u64) -> Result<String, AllocError> {
     format!(in alloc; "{entries:020}")
 }
 
+/// The name of the log after this many entries.
+pub fn log_name(alloc: Global, entries: u64) -> Result<String, AllocError> {
+    format!(in alloc; "{entries:020}{LOG_END}")
+}
+
 /// The path of a file in a folder.
 pub(crate) fn path_in(alloc: Global, folder: &str, name: &str) -> Result<String, AllocError> {
     format!(in alloc; "{folder}/{name}")
@@ -35,7 +43,19 @@ pub(crate) fn file_digits(path: &str) -> &str {
         Some((_, name)) => name,
         None => path,
     };
-    name.trim_start_matches('0')
+    let digits = match name.strip_suffix(LOG_END) {
+        Some(digits) => digits,
+        None => name,
+    };
+    digits.trim_start_matches('0')
+}
+
+/// The number that these digits are; the greatest one for those of a greater number, as no file has it.
+pub(crate) fn number_of(digits: &str) -> u64 {
+    if digits.is_empty() {
+        return 0;
+    }
+    digits.parse::<u64>().unwrap_or(u64::MAX)
 }
 
 /// What the text of the file with this path begins with.

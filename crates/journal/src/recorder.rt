@@ -3,9 +3,11 @@
 ghost use Rattle.std.specs.Prelude.{⊤};
 
 use crate::chronicle::{Chronicle, Sealer};
+use crate::fault::JournalFault;
 use crate::group::GroupJournal;
 use crate::journaled_sink::CatchesUp;
 use crate::meter::JournalMeter;
+use crate::renewal::Renewal;
 use crate::shelf::Shelf;
 use counted_io::DeviceFault;
 use std::sync::Wait;
@@ -16,13 +18,24 @@ pub trait Recorder {
     fn catch_up<H: Chronicle, R: Wait>(&self, rt: &R, chronicle: &H) -> Result<(), DeviceFault>;
 
     /// Seals, and begins a new file.
-    fn seal<H: Chronicle, R: Wait, K: Sealer>(
+    fn seal<R: Wait, K: Sealer>(&self, rt: &R, sealer: &mut K) -> K::Sealed
+        ensures { K.seals sealer.old result sealer.new };
+
+    /// Whether to seal by `renew`, and to put the base before what that seals.
+    fn is_base_due<R: Wait>(&self, rt: &R) -> bool;
+
+    /// Seals, and begins a new file; the base before what was sealed is to be put by `put_base`.
+    fn renew<R: Wait, K: Sealer>(&self, rt: &R, sealer: &mut K) -> Renewal<K::Sealed>
+        ensures { K.seals sealer.old result.sealed sealer.new };
+
+    /// Puts the base before what was sealed, and records entries meanwhile. If it fails, the records go on
+    /// without, and the caller tries again later.
+    fn put_base<H: Chronicle, R: Wait, K: Sealer>(
         &self,
         rt: &R,
         chronicle: &H,
-        sealer: &mut K,
-    ) -> K::Sealed
-        ensures { K.seals sealer.old result sealer.new };
+        renewal: &Renewal<K::Sealed>,
+    ) -> Result<(), JournalFault>;
 
     /// Whether entries may come: the records may grow. It waits for nothing.
     fn has_room(&self) -> bool;
@@ -49,13 +62,25 @@ impl Recorder for Unrecorded {
         Ok(())
     }
 
-    fn seal<H: Chronicle, R: Wait, K: Sealer>(
+    fn seal<R: Wait, K: Sealer>(&self, _rt: &R, sealer: &mut K) -> K::Sealed {
+        sealer.seal()
+    }
+
+    fn is_base_due<R: Wait>(&self, _rt: &R) -> bool {
+        false
+    }
+
+    fn renew<R: Wait, K: Sealer>(&self, _rt: &R, sealer: &mut K) -> Renewal<K::Sealed> {
+        Renewal::new(sealer.seal(), None)
+    }
+
+    fn put_base<H: Chronicle, R: Wait, K: Sealer>(
         &self,
         _rt: &R,
         _chronicle: &H,
-        sealer: &mut K,
-    ) -> K::Sealed {
-        sealer.seal()
+        _renewal: &Renewal<K::Sealed>,
+    ) -> Result<(), JournalFault> {
+        Ok(())
     }
 
     fn has_room(&self) -> bool {
@@ -76,13 +101,25 @@ impl<S: Shelf + Drop> Recorder for GroupJournal<S> {
         GroupJournal::catch_up(self, rt, chronicle)
     }
 
-    fn seal<H: Chronicle, R: Wait, K: Sealer>(
+    fn seal<R: Wait, K: Sealer>(&self, rt: &R, sealer: &mut K) -> K::Sealed {
+        self.rotate(rt, sealer)
+    }
+
+    fn is_base_due<R: Wait>(&self, rt: &R) -> bool {
+        GroupJournal::is_base_due(self, rt)
+    }
+
+    fn renew<R: Wait, K: Sealer>(&self, rt: &R, sealer: &mut K) -> Renewal<K::Sealed> {
+        GroupJournal::renew(self, rt, sealer)
+    }
+
+    fn put_base<H: Chronicle, R: Wait, K: Sealer>(
         &self,
         rt: &R,
         chronicle: &H,
-        sealer: &mut K,
-    ) -> K::Sealed {
-        self.rotate(rt, chronicle, sealer)
+        renewal: &Renewal<K::Sealed>,
+    ) -> Result<(), JournalFault> {
+        GroupJournal::put_base::<H, R, K>(self, rt, chronicle, renewal)
     }
 
     fn has_room(&self) -> bool {

@@ -4,6 +4,7 @@
 use crate::fault::FolderFault;
 use std::alloc::Global;
 use std::fs::{File, Files, Metadata, OpenOptions};
+use std::io::ErrorKind;
 use std::os::unix::fs::MetadataExt;
 use std::{fs, io};
 
@@ -23,6 +24,21 @@ pub(crate) fn open_regular<R: Files<File = File>>(
         }
     }
     Err(FolderFault::NotRegular(String::from_str(alloc, path)?))
+}
+
+/// Opens a regular file that is there, or tells why the system does not.
+pub(crate) fn open_named<R: Files<File = File>>(
+    rt: &R,
+    alloc: Global,
+    how: &OpenOptions,
+    path: &str,
+) -> io::Result<File> {
+    match open_regular(rt, alloc, how, path) {
+        Ok(file) => Ok(file),
+        Err(FolderFault::Device(cause)) => Err(cause),
+        Err(FolderFault::NoMemory) => Err(io::Error::from(ErrorKind::OutOfMemory)),
+        Err(_) => Err(io::Error::from(ErrorKind::InvalidInput)),
+    }
 }
 
 /// Whether a name leads to this open folder. An open folder's number is given to no other.

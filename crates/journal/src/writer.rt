@@ -4,11 +4,13 @@ ghost use Rattle.std.specs.Prelude.{◌≡◌, ◌≢◌, [], IfOk, OnOk, false,
 ghost use Rattle.journal.specs.Crash.{HasKept};
 ghost use Rattle.journal.specs.Journal.{Writes};
 ghost use Rattle.journal.specs.declared.policy.SyncPolicy.TheVariants as SyncPolicy;
-ghost use Rattle.journal.specs.Writing.{Begins, CatchesUpTo, IsRest, WritesText};
+ghost use Rattle.journal.specs.Writing.{BeginsFirst, BeginsLog, CatchesUpTo, IsRest, WritesText};
 
 use crate::chronicle::{Chronicle, Rest, Sealer, Spelled};
+use crate::distance::Distance;
 use crate::fault::JournalFault;
 use crate::files_room::FilesRoom;
+use crate::first_file::{FirstFile, first_file};
 use crate::group::FILE_OCTETS;
 use crate::journal::Journal;
 use crate::policy::SyncPolicy;
@@ -21,7 +23,7 @@ use std::marker::Model;
 use std::mem;
 
 // The last file, the end of its text, and its octets, now and at its beginning; the memory for texts of
-// entries; and the room for all files.
+// entries; the room for all files; and the distance from the last base, now and at the file's beginning.
 #[derive(Drop)]
 pub(crate) struct Writer<S: Shelf> {
     alloc: Global,
@@ -33,6 +35,8 @@ pub(crate) struct Writer<S: Shelf> {
     octets: u64,
     head: u64,
     room: FilesRoom,
+    distance: Distance,
+    begun: Distance,
 }
 
 impl<S: Shelf> Model for Writer<S> {
@@ -53,19 +57,21 @@ impl<S: Shelf> Writer<S> {
         chronicle: &H,
         shelf: S,
         limit: Option<u64>,
+        first: FirstFile,
     ) -> Result<Writer<S>, JournalFault>
     where
         S: Drop,
-        ensures { IfOk result (λ writer. Begins (H.begins chronicle.now) writer) }
+        ensures { IfOk result (λ writer. BeginsFirst (H.begins chronicle.now) writer) }
     {
         let mut shelf = shelf;
         let mut output = Output::new(alloc)?;
         let memory = chronicle.room()?;
+        let (file, distance) = first_file(&mut shelf, chronicle, &mut output, first)?;
         let BegunFile {
             tape,
             place,
             octets,
-        } = shelf.put_up(chronicle, &mut output)?;
+        } = file;
         let mut room = FilesRoom::new(limit);
         if room.is_limited() {
             room.set(shelf.octets()?);
@@ -80,6 +86,8 @@ impl<S: Shelf> Writer<S> {
             octets,
             head: octets,
             room,
+            distance,
+            begun: distance,
         })
     }
 
@@ -114,7 +122,26 @@ impl<S: Shelf> Writer<S> {
 
     // Whether entries may come.
     pub fn has_room(&self) -> bool {
-        self.room.is_left()
+        self.room.is_left() && self.distance.has_text_room()
+    }
+
+    // Whether a base is due. Without room for files none is.
+    pub fn is_base_due(&self) -> bool {
+        self.room.is_left() && self.distance.is_far(self.room.limit())
+    }
+
+    // The distance from the last base to the file's beginning.
+    pub fn begun(&self) -> Distance {
+        self.begun
+    }
+
+    // A base of so many octets stands where the distance from the one before was this.
+    pub fn note_base(&mut self, there: Distance, octets: u64)
+        ensures { self.new ≡ self.old }
+    {
+        self.distance = self.distance.from(there, octets);
+        self.begun = self.begun.from(there, octets);
+        self.room.add(octets);
     }
 
     // Where there was no room, counts anew: old files may have been moved away.
@@ -139,7 +166,7 @@ impl<S: Shelf> Writer<S> {
     {
         let (text, place) = self.spell(chronicle)?;
         self.write(text.as_slice(), always)?;
-        self.place = place;
+        self.move_to(place);
         self.give_back(text);
         Ok(())
     }
@@ -176,7 +203,7 @@ impl<S: Shelf> Writer<S> {
         ensures place { OnOk result (self.new.place ≡ place) }
     {
         self.write(text, false)?;
-        self.place = place;
+        self.move_to(place);
         Ok(())
     }
 
@@ -187,20 +214,32 @@ impl<S: Shelf> Writer<S> {
         self.write(rest, true)
     }
 
-    pub fn begin_file<H: Chronicle>(&mut self, chronicle: &H) -> Result<(), JournalFault>
-        ensures { OnOk result (Begins (H.begins chronicle.now) self.new) }
+    // Begins the next file, without a text: entries follow at once.
+    pub fn begin_log(&mut self, next: JournalPosition) -> Result<(), JournalFault>
+        ensures { OnOk result (BeginsLog next self.new) }
     {
         let BegunFile {
             tape,
-            place,
+            place: _,
             octets,
-        } = self.shelf.put_up(chronicle, &mut self.output)?;
+        } = self.shelf.put_log(next.begun)?;
         self.journal = Journal::new(tape);
-        self.place = place;
+        self.move_to(next);
+        self.begun = self.distance;
+        self.distance.add_file();
         self.head = octets;
         self.octets = octets;
-        self.room.add(octets);
         Ok(())
+    }
+
+    // The text has grown to this place.
+    fn move_to(&mut self, place: JournalPosition)
+        ensures place { self.new.place ≡ place }
+        ensures noted { self.new.noted ≡ self.old.noted }
+    {
+        let entries = place.spelled.saturating_sub(self.place.spelled);
+        self.distance.add_entries(entries);
+        self.place = place;
     }
 
     // The text of the next piece of what is missing.
@@ -239,6 +278,7 @@ impl<S: Shelf> Writer<S> {
             return Err(JournalFault::Device(self.journal.tape().cause()));
         }
         self.octets = self.octets.saturating_add(text.len() as u64);
+        self.distance.add_octets(text.len() as u64);
         self.room.add(text.len() as u64);
         Ok(())
     }

@@ -35,6 +35,27 @@ impl NewFile {
         synced(self.tape?)
     }
 
+    /// Whether nothing has failed.
+    pub fn works(&self) -> bool {
+        self.tape.is_ok()
+    }
+
+    /// It fails: nothing more is written.
+    pub fn fail(&mut self) {
+        self.tape = Err(io::Error::from(ErrorKind::Other));
+    }
+
+    /// Waits until a crash keeps what came, unless it has failed.
+    pub fn sync(&mut self) {
+        let Ok(tape) = &mut self.tape else {
+            return;
+        };
+        if tape.sync().is_err() {
+            let cause = cause_of(tape);
+            self.tape = Err(cause);
+        }
+    }
+
     // Appends to the file, unless it has failed.
     fn append(&mut self, bytes: &[u8]) {
         let Ok(tape) = &mut self.tape else {

@@ -33,6 +33,6 @@ impl<'a, H: Chronicle, J: Recorder> DeskRecords for JournalRecords<'a, H, J> {
 
     fn seal<G: Gate, R: Wait>(&self, rt: &R, desk: &mut Desk<'_, G>) -> Result<Segment, NoMemory> {
         let mut lent = LentDesk { rt, desk };
-        self.journal.seal(rt, self.chronicle, &mut lent)
+        self.journal.seal(rt, &mut lent)
     }
 }

@@ -4,7 +4,7 @@ ghost use Rattle.std.specs.Prelude.{◌≡◌, Err};
 ghost use Rattle.http_wire.specs.declared.fault.WireFault.{WireFault};
 
 use counted_io::DeviceFault;
-use fetchers::{Fetcher, PageLeave, RobotsLeave};
+use fetchers::{FetchMeter, Fetcher, PageLeave, RobotsLeave};
 use http_client::Failure;
 use http_wire::{ForwardedFields, HttpReply, WireFault};
 use journal::CatchesUp;
@@ -61,6 +61,10 @@ impl<'a, A: CatchesUp, F: Fetcher> Fetcher for JournaledFetcher<'a, A, F> {
 
     fn counts_texts(&self, octets: u64) {
         self.fetcher.counts_texts(octets);
+    }
+
+    fn meter(&self) -> Option<&FetchMeter> {
+        self.fetcher.meter()
     }
 
     /// If the wait fails, nothing is fetched: a device's fault.

@@ -3,6 +3,7 @@
 use Rattle.std.specs.Prelude.{◌++◌, ℕ, List, [], codes, decimal}
 use Rattle.command_server.specs.declared.server_counters.DenialCounts.{DenialCounts}
 use Rattle.command_server.specs.declared.server_counters.ServerCounts.{ServerCounts}
+use Rattle.fetchers.specs.declared.fetch_meter.RobotsFaults.{RobotsFaults}
 use Rattle.journal.specs.declared.meter.JournalCounts.{JournalCounts}
 use Rattle.keepers.specs.declared.counts.Counts.{Counts}
 use Rattle.turns.specs.declared.load.Load.{Load}
@@ -64,6 +65,16 @@ with_journal text journal =
     let syncs = with_counter octets (codes "journal_syncs_total") journal.syncs in
     with_gauge syncs (codes "journal_slowest_sync_microseconds") journal.slowest_sync
 
+-- a text, and then the failed fetches of robots.txt files by cause
+abbrev pub with_robots : List ℕ → RobotsFaults → List ℕ
+with_robots text faults =
+    let no_name = with_counter text (codes "robots_no_name_total") faults.no_name in
+    let refused = with_counter no_name (codes "robots_refused_total") faults.refused in
+    let timed_out = with_counter refused (codes "robots_timed_out_total") faults.timed_out in
+    let tls = with_counter timed_out (codes "robots_tls_total") faults.tls in
+    let status = with_counter tls (codes "robots_status_total") faults.status in
+    with_counter status (codes "robots_other_total") faults.other
+
 -- a text, and then how busy the loop of HTTP clients is
 abbrev pub with_load : List ℕ → Load → List ℕ
 with_load text load =
@@ -76,7 +87,7 @@ with_load text load =
 abbrev pub with_server : List ℕ → ServerCounts → List ℕ
 with_server text server =
     let denied = with_wants (with_rulings (with_clients text server) server.denials) server.denials in
-    with_journal (with_faults denied server) server.journal
+    with_robots (with_journal (with_faults denied server) server.journal) server.robots_faults
 
 -- the whole page
 abbrev pub metrics_text : Counts → ServerCounts → Load → List ℕ

@@ -1,11 +1,15 @@
-//! The clerk of a gate: it records entries that no reply waits for, and begins new files.
-//! The warden has one, at its own desk.
+//! The clerk of a gate: it records entries that no reply waits for, begins new files, and has bases put before
+//! them.
+//! The warden has one, at its own desk. docs/FORMATS.md has the files of a journal.
 
 use crate::recorded::Recorded;
+use crate::warden::Alarm;
 use counted_io::DeviceFault;
+use gate_core::NoMemory;
+use gate_history::Segment;
 use gate_journal::DeskSealer;
 use gate_lock::{DesksFull, Gate, Receipts};
-use journal::Recorder;
+use journal::{Recorder, Renewal};
 use journal_keepers::Looks;
 use std::alloc::Global;
 use std::sync::Wait;
@@ -13,13 +17,19 @@ use std::sync::Wait;
 // After this many looks, recorded entries are synced, if that happens once a second.
 const SYNC_LOOKS: u64 = 10;
 
-/// The recording, the desk that seals, and the looks. It has no `Drop`: `close` makes its
-/// receipts.
+// After a base that could not be put, the looks before the next try: a minute.
+const BASE_LOOKS: u64 = 600;
+
+/// The recording, the desk that seals, the looks, and the base that could not be put, if any. It has no `Drop`:
+/// `close` makes its receipts.
 #[must_use]
 pub(crate) struct Clerk<'a, 'g, G: Gate, J: Recorder, R: Wait> {
     recorded: &'g Recorded<'a, G, J, R>,
     sealer: DeskSealer<'a, 'a, G, R>,
     looks: Looks,
+    // What was sealed and lacks its base, and the looks before that is tried again.
+    lacking: Option<Renewal<Result<Segment, NoMemory>>>,
+    rests: u64,
 }
 
 impl<'a, 'g, G: Gate, J: Recorder, R: Wait> Clerk<'a, 'g, G, J, R> {
@@ -33,11 +43,13 @@ impl<'a, 'g, G: Gate, J: Recorder, R: Wait> Clerk<'a, 'g, G, J, R> {
             recorded,
             sealer,
             looks: Looks::new(SYNC_LOOKS),
+            lacking: None,
+            rests: 0,
         })
     }
 
-    /// Records what is entered, and begins a new file if it is due.
-    pub(crate) fn look(&mut self) -> Result<(), DeviceFault> {
+    /// Records what is entered, begins a new file if it is due, and has a base put if that is.
+    pub(crate) fn look<A: Alarm>(&mut self, alarm: &A) -> Result<(), DeviceFault> {
         let Recorded {
             chronicle,
             journal,
@@ -46,9 +58,55 @@ impl<'a, 'g, G: Gate, J: Recorder, R: Wait> Clerk<'a, 'g, G, J, R> {
         self.looks.look(chronicle.rt, chronicle, *journal, false)?;
         if journal.is_due(chronicle.rt, chronicle) {
             // If memory ran out, the next try finds it too; a fault of the journal ends each session.
-            let _ = journal.seal(chronicle.rt, chronicle, &mut self.sealer);
+            let _ = journal.seal(chronicle.rt, &mut self.sealer);
         }
+        self.see_to_bases(alarm);
         Ok(())
+    }
+
+    // Has a base put, unless one has failed within the last minute. The first failure is told.
+    fn see_to_bases<A: Alarm>(&mut self, alarm: &A) {
+        if self.rests > 0 {
+            self.rests -= 1;
+            return;
+        }
+        let is_again = self.lacking.is_some();
+        let Some(renewal) = self.renewal() else {
+            return;
+        };
+        let Recorded {
+            chronicle,
+            journal,
+            ..
+        } = self.recorded;
+        let put = journal.put_base::<_, _, DeskSealer<'_, '_, G, R>>(
+            chronicle.rt,
+            chronicle,
+            &renewal,
+        );
+        if let Err(fault) = put {
+            if !is_again {
+                alarm.base_failed(fault);
+            }
+            self.lacking = Some(renewal);
+            self.rests = BASE_LOOKS;
+        }
+    }
+
+    // What lacks its base: what failed before, or what is sealed now if a base is due.
+    fn renewal(&mut self) -> Option<Renewal<Result<Segment, NoMemory>>> {
+        if let Some(renewal) = self.lacking.take() {
+            return Some(renewal);
+        }
+        let Recorded {
+            chronicle,
+            journal,
+            ..
+        } = self.recorded;
+        if !journal.is_base_due(chronicle.rt) {
+            return None;
+        }
+        Some(journal.renew(chronicle.rt, &mut self.sealer))
     }
 
     pub(crate) fn close(self) -> Receipts<G> {
@@ -56,6 +114,8 @@ impl<'a, 'g, G: Gate, J: Recorder, R: Wait> Clerk<'a, 'g, G, J, R> {
             recorded: _,
             sealer,
             looks: _,
+            lacking: _,
+            rests: _,
         } = self;
         sealer.close()
     }

@@ -1,9 +1,10 @@
 //! The page of numbers for a collector: what INFO tells, and how busy the loop of HTTP clients is.
 //! docs/FORMATS.md has its lines.
 ghost use Rattle.std.specs.Prelude.{◌≡◌, IfOk, OnOk, codes};
-ghost use Rattle.line_server.specs.HttpMetrics.{metrics_text, with_clients, with_counter, with_counts, with_faults, with_gauge, with_journal, with_load, with_metric, with_rulings, with_wants};
+ghost use Rattle.line_server.specs.HttpMetrics.{metrics_text, with_clients, with_counter, with_counts, with_faults, with_gauge, with_journal, with_load, with_metric, with_robots, with_rulings, with_wants};
 
 use command_server::{DenialCounts, ServerCounters, ServerCounts};
+use fetchers::RobotsFaults;
 use gate_history::Cause;
 use http_front::Metrics;
 use itoa::Buffer;
@@ -63,6 +64,7 @@ fn metrics_text(
     push_wants(&mut text, server.denials)?;
     push_faults(&mut text, server)?;
     push_journal(&mut text, server.journal)?;
+    push_robots(&mut text, server.robots_faults)?;
     push_load(&mut text, load)?;
     Ok(text)
 }
@@ -121,6 +123,18 @@ fn push_journal(text: &mut Vec<u8>, journal: JournalCounts) -> Result<(), AllocE
         "journal_slowest_sync_microseconds",
         journal.slowest_sync,
     )
+}
+
+// The failed fetches of robots.txt files by cause.
+fn push_robots(text: &mut Vec<u8>, faults: RobotsFaults) -> Result<(), AllocError>
+    ensures { OnOk result (text.new.items ≡ with_robots text.old.items faults) }
+{
+    push_counter(text, "robots_no_name_total", faults.no_name)?;
+    push_counter(text, "robots_refused_total", faults.refused)?;
+    push_counter(text, "robots_timed_out_total", faults.timed_out)?;
+    push_counter(text, "robots_tls_total", faults.tls)?;
+    push_counter(text, "robots_status_total", faults.status)?;
+    push_counter(text, "robots_other_total", faults.other)
 }
 
 fn push_load(text: &mut Vec<u8>, load: Load) -> Result<(), AllocError>

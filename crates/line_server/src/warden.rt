@@ -14,7 +14,7 @@ use fetchers::Fetcher;
 use gate_core::Book;
 use gate_history::Entry;
 use gate_lock::{Desk, Gate, GateLock, Receipts};
-use journal::Recorder;
+use journal::{JournalFault, Recorder};
 use robots_verdict::Said;
 use std::sync::Wait;
 use std::sync::atomic::{AtomicU64, Ordering};
@@ -30,10 +30,13 @@ pub const FULL_SECONDS: u64 = 60;
 // The sleep between two checks for remaining workers.
 const NAP_MILLISECONDS: u64 = 100;
 
-/// Called when the gate's history is full.
+/// Called when an operator should know of something.
 pub trait Alarm {
     /// The history is full: nothing is asked, begun or swept any more.
     fn log_is_full(&self);
+
+    /// A base of the journal could not be put. It is tried again each minute, and the journal goes on meanwhile.
+    fn base_failed(&self, fault: JournalFault);
 }
 
 /// The last sweep, the number of the clock's next reading, whether the full history was reported, and the
@@ -106,7 +109,7 @@ impl<F: Fetcher, C: NumberedClock, A: Alarm, R: Wait + time::Clock> Server<'_, F
 
     // Maintains the records. If they failed, clients are no longer accepted, and each worker ends.
     fn record<G: Gate, J: Recorder>(&self, clerk: &mut Clerk<'_, '_, G, J, R>) {
-        if clerk.look().is_err() {
+        if clerk.look(self.alarm).is_err() {
             // If there is no descriptor, the next look tries again.
             let _ = self.listener.shut();
         }

@@ -1,22 +1,14 @@
 -- What closed a site: the last reply of a walk, and the answer that it decided.
--- Used by `ClosedBy`; RFC 9309, sections 2.3.1.2 and 2.3.1.4.
-use Rattle.std.specs.Prelude.{Bool, false, Option, Some, Result, Ok, Err, codes, if◌then◌else◌, string_bytes, take}
+-- Used by `closing`; RFC 9309, sections 2.3.1.2 and 2.3.1.4.
+use Rattle.std.specs.Prelude.{Bool, false, Some, codes, if◌then◌else◌, string_bytes, take}
 use Rattle.robots_text.specs.Words.{is_same_word}
 use Rattle.robots_verdict.specs.declared.answer.Closure.TheVariants as closures
 use Rattle.robots_verdict.specs.declared.said.Said.{Said}
 use Rattle.robots_verdict.specs.declared.said.Said.TheVariants.{Closed}
 use Rattle.robots_fetch.specs.declared.reply.RobotsReply.{RobotsReply}
 use Rattle.robots_fetch.specs.declared.reply.RobotsReply.TheVariants.{Status}
-use Rattle.http_wire.specs.declared.fault.WireFault.{WireFault}
-use Rattle.http_wire.specs.declared.response.HttpReply.{HttpReply}
-use Rattle.http_client.specs.declared.failure.Failure.{Failure}
-use Rattle.page_worker.specs.declared.event.ClosedBy.{ClosedBy}
-use Rattle.page_worker.specs.declared.event.ClosedBy.TheVariants as closings
-
--- the result of a fetch, with its device's failure if any
-abbrev pub closing_of : Result HttpReply WireFault → Option Failure → ClosedBy
-closing_of (Ok reply) failure = closings.Status reply.status
-closing_of (Err fault) failure = closings.Fault fault failure
+use Rattle.fetchers.specs.declared.closed_by.ClosedBy.{ClosedBy}
+use Rattle.fetchers.specs.declared.closed_by.ClosedBy.TheVariants as closings
 
 -- the reply's Location begins with `https:`, in any case
 abbrev pub leads_to_https : RobotsReply → Bool

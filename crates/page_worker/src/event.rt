@@ -1,16 +1,11 @@
 //! The events that workers report while they do a job.
 //! For watchers of a crawl: a table, a progress line, the closed sites.
-ghost use Rattle.std.specs.Prelude.{◌≡◌};
-ghost use Rattle.robots_verdict.specs.Answer.{said};
-ghost use Rattle.page_worker.specs.Closings.{closing_of, decided_by, leads_to_https};
 
 use crawl_job::Hop;
+use fetchers::ClosedBy;
 use http_client::Failure;
-use http_wire::{HttpReply, WireFault};
 use path_normal::PageUrl;
-use robots_fetch::RobotsReply;
-use robots_text::{Token, is_same_word};
-use robots_verdict::{Answer, Closure};
+use robots_text::Token;
 
 /// The next event of a job.
 #[derive(Clone, Copy)]
@@ -49,60 +44,4 @@ pub trait EventObserver {
 
 impl EventObserver for () {
     fn sees(&self, _event: Event<'_>) {}
-}
-
-/// What closed a site: the response to the request for its robots.txt, or for a redirect's target.
-#[derive(Clone, Copy, Debug, PartialEq, Eq)]
-pub enum ClosedBy {
-    /// A response with this status.
-    Status(u16),
-    /// A redirect whose target is missing or no page URL.
-    BadRedirect,
-    /// A redirect to https.
-    Https,
-    /// A redirect to another scheme than http.
-    OtherScheme,
-    /// The fetch failed; with this failure, if its device failed.
-    Fault(WireFault, Option<Failure>),
-    /// No memory for the fetch.
-    NoMemory,
-}
-
-impl ClosedBy {
-    pub(crate) fn met(given: &Result<HttpReply, WireFault>, failure: Option<Failure>) -> ClosedBy
-        ensures { result ≡ closing_of given.now failure }
-    {
-        match given {
-            Ok(reply) => ClosedBy::Status(reply.status),
-            Err(fault) => ClosedBy::Fault(*fault, failure),
-        }
-    }
-
-    /// What decided this fetched answer; for a redirect, why it is not followed.
-    pub(crate) fn decided(self, reply: &RobotsReply, answer: &Answer) -> ClosedBy
-        ensures { result ≡ decided_by self reply.now (said answer.now) }
-    {
-        match answer {
-            Answer::Closed(Closure::Scheme) if leads_to_https(reply) => ClosedBy::Https,
-            Answer::Closed(Closure::Scheme) => ClosedBy::OtherScheme,
-            Answer::Closed(Closure::BadRedirect) => ClosedBy::BadRedirect,
-            _ => self,
-        }
-    }
-}
-
-// Whether the Location begins with `https:`, in any case.
-fn leads_to_https(reply: &RobotsReply) -> bool
-    ensures { result ≡ leads_to_https reply.now }
-{
-    match reply {
-        RobotsReply::Status {
-            location: Some(location),
-            ..
-        } => {
-            let octets = location.as_bytes();
-            is_same_word(&octets[..octets.len().min(6)], b"https:")
-        }
-        _ => false,
-    }
 }

@@ -3,6 +3,7 @@
 #![tactic(auto)]
 
 mod clock;
+mod closing;
 mod event;
 pub mod laws;
 mod newcomers;
@@ -14,7 +15,7 @@ mod worker;
 mod working;
 
 pub use clock::Clock;
-pub use event::{ClosedBy, Event, EventObserver};
+pub use event::{Event, EventObserver};
 pub use newcomers::is_unknown;
 pub use refreshing::{refresh, refresh_within};
 pub use visiting::{PageVisit, PageVisitor, Visited};

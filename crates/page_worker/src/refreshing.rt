@@ -10,10 +10,11 @@ ghost use Rattle.page_worker.specs.Refreshes.{Brings, IsBrought, IsUndecided, Re
 ghost use Rattle.page_worker.specs.World.{world_of};
 
 use crate::clock::Clock;
-use crate::event::{ClosedBy, Event, EventObserver};
+use crate::closing::decided_by;
+use crate::event::{Event, EventObserver};
 use crate::newcomers::begin_within;
-use authority_cache::{LIFE, TimedAnswer};
-use fetchers::Fetcher;
+use authority_cache::{LIFE, TimedAnswer, TurnNo};
+use fetchers::{ClosedBy, Fetcher};
 use gate_core::{BeginRefusal, Standing};
 use gate_lock::{Desk, Gate, RobotsTurn};
 use http_wire::{HttpReply, WireFault};
@@ -108,10 +109,19 @@ pub(crate) fn bring_answer<G: Gate, F: Fetcher, C: Clock, N: EventObserver, R: W
         Answer::Closed(_) => Some(why),
         Answer::Rules(_) | Answer::Open(_) => None,
     };
+    // Before the answer is in force, so whoever finds it finds the note.
+    note_closing(fetcher, turn.number(), closed_by);
     notes.sees(Event::Brought(turn.authority().text(), closed_by));
     let word = Standing::of(answer.answer());
     desk.arrive(rt, turn, answer, clock.now());
     word
+}
+
+// Notes what closes the site of a turn, if its answer is a closed one.
+fn note_closing<F: Fetcher>(fetcher: &F, turn: TurnNo, closed_by: Option<ClosedBy>) {
+    if let (Some(by), Some(meter)) = (closed_by, fetcher.meter()) {
+        meter.note_closed(turn, by);
+    }
 }
 
 // The answer of the authority's robots.txt, with its life; a closed one if there is no room for its text.
@@ -165,7 +175,7 @@ fn fetch_answer<G: Gate, F: Fetcher, N: EventObserver>(
         walk = match walk.step_among(alloc, schemes, &reply) {
             Step::Go(next) => next,
             Step::Done(answer) => {
-                *why = met.decided(&reply, answer.answer());
+                *why = decided_by(met, &reply, answer.answer());
                 return answer;
             }
             Step::NoMemory(_) => return undecided(),

@@ -8,5 +8,6 @@ pub mod CallerLemmas
 pub mod SortedLemmas
 pub mod OrderLemmas
 pub mod KeptLemmas
+pub mod NextLemmas
 pub mod Spelling
 pub mod FrontLemmas

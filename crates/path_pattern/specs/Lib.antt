@@ -5,5 +5,6 @@ pub mod Fronts
 pub mod Kept
 pub mod Matches
 pub mod Literals
+pub mod NextPlaces
 pub mod Sorted
 pub mod Texts

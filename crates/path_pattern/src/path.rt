@@ -6,8 +6,9 @@ ghost use Rattle.path_pattern.specs.Literals.{IsAfterFirst, StandsNowhere};
 ghost use Rattle.path_pattern.specs.Sorted.{ArePlacesOf};
 
 use crate::fronts::{Fronts, count_hints, no_fronts, spell_fronts};
-use crate::kept::{Marked, Room, Stand, first_in, forget_marks, forget_stands, range_kept};
+use crate::kept::{Room, Stand, first_in, forget_stands, range_kept};
 use crate::literals::first_place;
+use crate::next_places::{NextPlaces, next_places, no_next_places};
 use crate::slots::{FIRST_SLOTS, SlotDraw};
 use crate::suffix_array::SuffixArray;
 use std::marker::Model;
@@ -20,8 +21,9 @@ pub struct Path<'p, 'k> {
     places: &'p [u16],
     // The first octets of the suffixes there.
     fronts: Fronts<'k>,
+    // What finds the next of the places.
+    next: NextPlaces<'k>,
     kept: &'k mut [Stand],
-    marked: &'k mut [Marked],
     draw: SlotDraw,
 }
 
@@ -31,15 +33,16 @@ impl<'p, 'k> Model for Path<'p, 'k> {
     ghost Value = { List ℕ };
 
     ghost use Rattle.path_pattern.specs.Fronts.{HasFronts};
-    ghost use Rattle.path_pattern.specs.Kept.{AreKept, AreMarked};
+    ghost use Rattle.path_pattern.specs.Kept.{AreKept};
+    ghost use Rattle.path_pattern.specs.NextPlaces.{AreNextOf};
     ghost use Rattle.path_pattern.specs.Sorted.{ArePlacesOf};
 
     ghost view = { λ path. path.text.now };
 
     ghost invariant = { λ path. ArePlacesOf path.text.now path.places.now
         × HasFronts path.text.now path.places.now path.fronts.numbers.now
-        × AreKept path.text.now path.places.now path.kept.now
-        × AreMarked path.places.now path.marked.now };
+        × AreNextOf path.places.now path.next
+        × AreKept path.text.now path.places.now path.kept.now };
 }
 
 impl<'p, 'k> Path<'p, 'k> {
@@ -51,8 +54,8 @@ impl<'p, 'k> Path<'p, 'k> {
             text,
             places: &[],
             fronts: no_fronts(),
+            next: no_next_places(),
             kept: &mut [],
-            marked: &mut [],
             draw: FIRST_SLOTS,
         }
     }
@@ -64,21 +67,22 @@ impl<'p, 'k> Path<'p, 'k> {
     {
         let Room {
             stands,
-            marked,
             fronts: numbers,
             hints,
+            indices,
+            lasts,
         } = room;
         let places = places.as_slice();
         forget_stands(stands);
-        forget_marks(marked);
         spell_fronts(numbers, text, places);
         count_hints(hints, &numbers[..places.len()]);
+        let next = next_places(indices, lasts, places);
         Path {
             text,
             places,
             fronts: Fronts { numbers, hints },
+            next,
             kept: stands,
-            marked,
             draw: FIRST_SLOTS,
         }
     }
@@ -119,7 +123,7 @@ impl<'p, 'k> Path<'p, 'k> {
         if from >= text.len() {
             return None;
         }
-        first_in(self.marked, text, places, literal, range, from as u16)
+        first_in(self.next, text, places, literal, range, from as u16)
     }
 }
 

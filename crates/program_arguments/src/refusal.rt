@@ -49,14 +49,32 @@ pub(crate) fn has_sign(words: &[&str]) -> bool {
     refused_in(words, WordFault::Number).is_some()
 }
 
-// The first option, with its value, that is refused for this reason.
+// The first option, with its value, that is refused for this reason; or the token of a check.
 fn refused_in<'a>(words: &[&'a str], fault: WordFault) -> Option<(&'a str, &'a str)> {
+    if fault == WordFault::Token {
+        let token = token_in(words)?;
+        return Some(("<TOKEN>", token));
+    }
     let mut before = "";
     for word in words {
         let (name, value) = word.split_once('=').unwrap_or((before, *word));
         if is_refused(name, value, fault) {
             return Some((name, value));
         }
+        before = *word;
+    }
+    None
+}
+
+// The token of a check: after that word, the first one that is no option, and no file of one.
+fn token_in<'a>(words: &[&'a str]) -> Option<&'a str> {
+    let mut before = "--robots";
+    let mut is_after = false;
+    for word in words {
+        if is_after && before != "--robots" && !word.starts_with('-') {
+            return Some(*word);
+        }
+        is_after = is_after || *word == "check";
         before = *word;
     }
     None

@@ -52,6 +52,17 @@ pub fn tell_short_journal(rt: &HostRuntime, file: &str, line: u64) -> Ending {
     Ending::NoJournal
 }
 
+/// Prints which file of a journal does not begin where the files before it end, so that one is missing, or has
+/// fewer lines than it had; the program ends.
+pub fn tell_misplaced(rt: &HostRuntime, file: &str) -> Ending {
+    tell(rt, file, "does not begin where the files before it end")
+}
+
+/// Prints which file of a journal is the first that is here, and has no base before it; the program ends.
+pub fn tell_without_base(rt: &HostRuntime, file: &str) -> Ending {
+    tell(rt, file, "goes on from files that are not here")
+}
+
 /// Prints after how many entries a journal's file begins whose earlier files are not in its folder. The program
 /// goes on.
 pub fn tell_begins_alone(rt: &HostRuntime, file: &str, entries: &str) {
@@ -110,6 +121,22 @@ pub fn tell_failed_journal(rt: &HostRuntime, folder: &str, fault: JournalFault) 
         JournalFault::Elsewhere => tell(rt, folder, "does not go on where its files end"),
         JournalFault::Gone => tell(rt, folder, "was removed or replaced"),
     }
+}
+
+/// Prints why a base could not be put before a journal's log. The program goes on, and tries again.
+pub fn tell_failed_base(rt: &HostRuntime, folder: &str, fault: JournalFault) {
+    // If standard error fails, the journal stays.
+    let _ = match fault {
+        JournalFault::NoRoom(octets) => eprintln!(rt;
+            "crawlgate: journal: {folder:?} has no room for a base, which needs {octets} octets and is tried again each minute"
+        ),
+        JournalFault::Device(Some(cause)) => eprintln!(rt;
+            "crawlgate: journal: {folder:?} lacks a base, which is tried again each minute: {cause}"
+        ),
+        _ => eprintln!(rt;
+            "crawlgate: journal: {folder:?} lacks a base, which is tried again each minute"
+        ),
+    };
 }
 
 // Prints that the disk has no room for a journal's next file.

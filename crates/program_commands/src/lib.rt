@@ -23,9 +23,10 @@ pub use asked::run;
 pub use books::new_book;
 pub use ending::Ending;
 pub use journals::{
-    tell_bad_folder, tell_bad_journal, tell_begins_alone, tell_clock_set_back, tell_failed_journal,
-    tell_few_slots, tell_full_journal, tell_left_alone, tell_no_room_to_end, tell_short_journal,
-    tell_torn_line, tell_unread_journal,
+    tell_bad_folder, tell_bad_journal, tell_begins_alone, tell_clock_set_back, tell_failed_base,
+    tell_failed_journal, tell_few_slots, tell_full_journal, tell_left_alone, tell_misplaced,
+    tell_no_room_to_end, tell_short_journal, tell_torn_line, tell_unread_journal,
+    tell_without_base,
 };
 pub use message::Message;
 pub use next::Next;

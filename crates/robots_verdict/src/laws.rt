@@ -8,7 +8,7 @@ ghost use Rattle.robots_verdict.specs.Strongest.{IsBest};
 ghost use Rattle.robots_verdict.specs.Verdict.{IsVerdict};
 
 use crate::answer::Answer;
-use crate::decision::{Allowed, Verdict, is_robots_path, verdict_of};
+use crate::decision::{Allowed, Verdict, is_robots_path, verdict_of, verdict_on};
 use crate::policy::Policy;
 use crate::weight::{Weight, stronger};
 use path_pattern::{Path, Pattern};
@@ -32,10 +32,7 @@ pub fn are_equal(one: &Answer, other: &Answer) -> bool
 pub fn verdict_plain(policy: &Policy, token: &Token, path: &[u8]) -> Verdict
     ensures { IsVerdict (numbered_records policy.now) token.now path.now result }
 {
-    if is_robots_path(path) {
-        return Verdict::Allow(Allowed::RobotsPath);
-    }
-    verdict_of(policy.strongest_by_text(token, &mut Path::new(path)))
+    verdict_on(path, policy.strongest_by_text(token, &mut Path::new(path)))
 }
 
 /// The verdict of a text by trying each rule for the token. Makes a pattern of each.

@@ -1,3 +1,4 @@
-//! Rows over journals in memory.
+//! Rows over journals in memory, and over folders of files.
 
 mod crashes;
+mod files;

@@ -7,7 +7,7 @@ use super::{PAGES, demand};
 use client_connections::{Connections, Listener};
 use gate_core::{Book, Limits};
 use gate_lock::{Blanks, Gate, GateLock};
-use journal::Unrecorded;
+use journal::{JournalFault, Unrecorded};
 use keepers::Bounds;
 use line_server::{Alarm, Server};
 use page_worker::Clock;
@@ -58,6 +58,8 @@ struct Unheard;
 
 impl Alarm for Unheard {
     fn log_is_full(&self) {}
+
+    fn base_failed(&self, _fault: JournalFault) {}
 }
 
 // Serves the two connected clients, and returns the entries of the history.

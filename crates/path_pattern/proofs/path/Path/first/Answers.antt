@@ -11,5 +11,5 @@ returns-then-is_empty-clause-finds c = subst (λ path. FindsNeedle path c.args.l
 pub returns-clause-finds : goal.returns-clause-finds
 returns-clause-finds c =
     let range = c.range_kept-range.result in
-    let found = finds_least c.self.inside.text.now (part c.self.inside.places.now range.0 range.1) c.args.literal.now c.args.from c.range_kept-range.ensures.range.all c.first_in.result c.first_in.ensures.least in
+    let found = finds_least c.self.inside.text.now (part c.self.inside.places.now range.0 range.1) c.args.literal.now c.args.from c.range_kept-range.ensures.range.all c.first_in.result c.first_in.ensures in
     subst (λ path. FindsNeedle path c.args.literal.now c.args.from c.first_in.result) c.self.view_is found
