@@ -16,9 +16,9 @@ def build_site(folder):
 
 
 @contextlib.contextmanager
-def site_of(folder, octets):
-    """Has a site with pages of that many octets, and gives its authority."""
-    words = [f"{folder}/site", "16", str(octets)]
+def site_of(folder, octets, threads=16):
+    """Has a site with pages of that many octets, and gives its authority. Each thread has one connection at a time."""
+    words = [f"{folder}/site", str(threads), str(octets)]
     process = subprocess.Popen(words, stdout=subprocess.PIPE, text=True)
     try:
         yield f"127.0.0.1:{int(process.stdout.readline())}"
@@ -37,11 +37,13 @@ def run(words, given=b""):
 
 
 class Crawl:
-    """That many pages of a site, that many at a time. The options are those of a shift and of curl that its scheme needs."""
+    """That many pages of a site, that many at a time, each over a connection of its own unless these are kept. The
+    options are those of a shift and of curl that its scheme needs."""
 
-    def __init__(self, program, folder, site, pages, workers, of_shift=(), of_curl=()):
+    def __init__(self, program, folder, site, pages, workers, of_shift=(), of_curl=(), kept=False):
         self.program, self.folder, self.pages, self.workers = program, folder, pages, workers
-        self.of_shift, self.of_curl = of_shift, of_curl
+        self.of_shift = [*of_shift, "--keep-alive"] if kept else of_shift
+        self.of_curl = of_curl if kept else ["--header", "Connection: close", *of_curl]
         self.urls = [f"{site}/page{at}" for at in range(pages)]
 
     def by_program(self):
@@ -63,4 +65,4 @@ class Crawl:
         with open(config, "w") as file:
             file.writelines(f'url = "{it}"\noutput = "/dev/null"\n' for it in self.urls)
         words = ["curl", "--silent", "--fail", "--parallel", "--parallel-max", str(self.workers), "--config", config]
-        return self.pages / run([*words, "--noproxy", "*", "--header", "Connection: close", *self.of_curl])[0]
+        return self.pages / run([*words, "--noproxy", "*", *self.of_curl])[0]

@@ -4,7 +4,8 @@
    usage: site THREADS OCTETS [RULES]
 
    It writes the port at which it listens. Each thread takes one connection after the other, reads a request up to its
-   empty line, answers it, 404 for /robots.txt and a page of that many octets for each other target, and closes.
+   empty line, and answers it, 404 for /robots.txt and a page of that many octets for each other target. It closes the
+   connection behind a request with `Connection: close`, and else reads the next request.
 
    With RULES each address that begins with 127 is a site, whose robots.txt has that many rules, the first of which denies
    /private/, and names the address. At the end of its input it writes how many robots.txt files, pages, and pages below
@@ -20,10 +21,11 @@
 
 enum { REQUEST = 16384, ROBOTS = 65536 };
 
-static const char missing[] = "HTTP/1.1 404 None\r\nContent-Length: 0\r\nConnection: close\r\n\r\n";
+/* The lines of a head before its empty one: where the connection goes on, and where it does not. */
+static const char *const ends[] = {"\r\n", "Connection: close\r\n\r\n"};
 static int listener;
-static char *page;
-static size_t length;
+static char *pages[2];
+static size_t lengths[2];
 static int rules;
 static atomic_long robots_count, page_count, denied_count;
 
@@ -68,7 +70,13 @@ static struct in_addr own_address(int peer)
     return own.sin_addr;
 }
 
-static void send_rules(int peer)
+static void send_missing(int peer, int closes)
+{
+    char said[128];
+    send_all(peer, said, sprintf(said, "HTTP/1.1 404 None\r\nContent-Length: 0\r\n%s", ends[closes]));
+}
+
+static void send_rules(int peer, int closes)
 {
     char name[INET_ADDRSTRLEN], body[ROBOTS], said[ROBOTS + 128];
     struct in_addr own = own_address(peer);
@@ -76,26 +84,29 @@ static void send_rules(int peer)
     int at = sprintf(body, "# %s\nUser-agent: *\nDisallow: /private/\n", name);
     for (int rule = 1; rule < rules && at < ROBOTS - 64; rule++)
         at += sprintf(body + at, "Disallow: /part%d/page\n", rule);
-    int length = sprintf(said, "HTTP/1.1 200 OK\r\nContent-Length: %d\r\nConnection: close\r\n\r\n%s", at, body);
+    int length = sprintf(said, "HTTP/1.1 200 OK\r\nContent-Length: %d\r\n%s%s", at, ends[closes], body);
     send_all(peer, said, length);
 }
 
-static void answer(int peer)
+/* Answers the next request, and returns whether another one may follow. */
+static int answer(int peer)
 {
     char request[REQUEST + 1];
     if (!read_request(peer, request))
-        return;
+        return 0;
+    int closes = strstr(request, "\r\nConnection: close\r\n") != 0;
     if (!strncmp(request, "GET /robots.txt ", 16)) {
         robots_count++;
         if (rules)
-            send_rules(peer);
+            send_rules(peer, closes);
         else
-            send_all(peer, missing, sizeof missing - 1);
-        return;
+            send_missing(peer, closes);
+        return !closes;
     }
     page_count++;
     denied_count += !strncmp(request, "GET /private/", 13);
-    send_all(peer, page, length);
+    send_all(peer, pages[closes], lengths[closes]);
+    return !closes;
 }
 
 static void *serve(void *none)
@@ -106,20 +117,22 @@ static void *serve(void *none)
             continue;
         /* (nobody on another machine is answered) */
         if (ntohl(own_address(peer).s_addr) >> 24 == 127)
-            answer(peer);
+            while (answer(peer))
+                ;
         close(peer);
     }
     return none;
 }
 
-static void make_page(size_t octets)
+static void make_page(size_t octets, int closes)
 {
-    page = calloc(1, octets + 128);
+    char *page = calloc(1, octets + 128);
     if (!page)
         stop("calloc");
-    length = sprintf(page, "HTTP/1.1 200 OK\r\nContent-Length: %zu\r\nConnection: close\r\n\r\n", octets);
+    size_t length = sprintf(page, "HTTP/1.1 200 OK\r\nContent-Length: %zu\r\n%s", octets, ends[closes]);
     memset(page + length, 'x', octets);
-    length += octets;
+    pages[closes] = page;
+    lengths[closes] = length + octets;
 }
 
 static void open_listener(in_addr_t host)
@@ -139,7 +152,8 @@ int main(int count, char **words)
     if (count != 3 && count != 4)
         return 2;
     rules = count == 4 ? atoi(words[3]) : 0;
-    make_page(strtoul(words[2], 0, 10));
+    make_page(strtoul(words[2], 0, 10), 0);
+    make_page(strtoul(words[2], 0, 10), 1);
     open_listener(rules ? INADDR_ANY : INADDR_LOOPBACK);
     for (int at = rules ? 0 : 1; at < atoi(words[1]); at++) {
         pthread_t thread;

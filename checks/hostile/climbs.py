@@ -13,7 +13,7 @@ SIGNS = ["a", "b", "c", "|", "^", "{", "}", "7", "C", "%7C", "7C", "|7", "C%"]
 # the ask without an index, the one that makes it, and two by it
 ASKS = 4
 # how long an ask may take of what looks at most numbers, and where a climb ends, in milliseconds
-MOST = 6 * costs.MOST
+MOST = 2 * costs.MOST
 # how many changes that are no worse end a climb
 PATIENCE = 12
 

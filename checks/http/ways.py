@@ -16,7 +16,7 @@ from lib.sites import Site, response
 
 METRICS = [
     "entries", "entries_total", "starts_total", "permits", "running", "turns", "authorities", "room",
-    "connections_total", "clients",
+    "connections_total", "clients", "waiting",
     "denied_by_lines_total", "denied_closed_total", "denied_unknown_total", "denied_expired_total",
     "denied_spent_total", "failed_pages_total",
     "failed_robots_total", "journal_octets_total", "journal_syncs_total", "journal_slowest_sync_microseconds",

@@ -141,7 +141,7 @@ def client_looks_inside():
                     "denied_expired": 0,
                     "denied_spent": 0, "failed_pages": 0, "failed_robots": 0, "journal_octets": 0, "journal_syncs": 0,
                     "slowest_sync": 0, "robots_no_name": 0, "robots_refused": 0, "robots_timed_out": 0, "robots_tls": 0,
-                    "robots_status": 0, "robots_other": 0}
+                    "robots_status": 0, "robots_other": 0, "waiting": 0}
             same(gate.info(), told)
             subprocess.run(
                 [f"{CLIENTS}/prometheus.py", str(server.port), f"{folder}/gate.prom"], check=True, timeout=SECONDS,
@@ -149,7 +149,7 @@ def client_looks_inside():
         with open(f"{folder}/gate.prom", encoding="utf-8") as file:
             text = file.read()
         same(os.listdir(folder), ["gate.prom"])
-        same(text.count("\n"), 81)
+        same(text.count("\n"), 84)
         assert "# TYPE crawlgate_up gauge\ncrawlgate_up 1\n" in text, text
         assert "# TYPE crawlgate_starts_total counter\ncrawlgate_starts_total 1\n" in text, text
         assert "# TYPE crawlgate_room gauge\ncrawlgate_room 999994\n" in text, text

@@ -1,4 +1,5 @@
 """Cases of checks/serve in which somebody looks into a server: WHY, and the port of --seal-port."""
+import contextlib
 import os
 import re
 import tempfile
@@ -116,6 +117,41 @@ def seal_port_beside_clients():
         same(server.end(), (b"SERVED connections 2 events 5\n", 0, b""))
 
 
+def told_waiting(overseer):
+    """Returns the clients that INFO says are served, and those that it says wait."""
+    words = overseer.say("INFO").split(" ")
+    counts = dict(zip(words[1::2], map(int, words[2::2])))
+    return counts["clients"], counts["waiting"]
+
+
+def reached(read, wanted):
+    """Waits until that value is read."""
+    deadline = time.monotonic() + SECONDS
+    while (found := read()) != wanted:
+        assert time.monotonic() < deadline, f"{found}, wanted {wanted}"
+        time.sleep(0.02)
+
+
+def clients_wait_in_line(server):
+    """INFO counts the clients for which no worker is free, and no longer once they are served or gone."""
+    with server.overseer() as overseer, contextlib.ExitStack() as stack:
+        first, *others = [stack.enter_context(Session(server)) for _ in range(4)]
+        same(first.say("STATE a.example"), "STATE a.example unknown idle")
+        reached(lambda: told_waiting(overseer), (1, 3))
+        same(first.say("QUIT"), "BYE")
+        reached(lambda: told_waiting(overseer), (1, 2))
+        for it in others:
+            same(it.say("QUIT"), "BYE")
+        same(overseer.say("QUIT"), "BYE")
+    same(server.end(), (b"SERVED connections 4 events 0\n", 0, b""))
+
+
+def waiting_clients_are_counted():
+    """As clients_wait_in_line, at a port."""
+    with Overseen("--workers", "1", "--connections", "4") as server:
+        clients_wait_in_line(server)
+
+
 def silent_overseer_leaves():
     """An overseer that is silent for five seconds, or sends half a line and stays, leaves its place to the next one;
     one that sends lines goes on, and so does a silent one for which nobody waits."""
@@ -173,6 +209,6 @@ def seal_port_that_is_taken():
 
 
 CASES = [
-    why_an_answer_stands, client_asks_why, seal_port_beside_clients, silent_overseer_leaves, seal_port_with_a_journal,
-    seal_port_that_is_taken,
+    why_an_answer_stands, client_asks_why, seal_port_beside_clients, waiting_clients_are_counted, silent_overseer_leaves,
+    seal_port_with_a_journal, seal_port_that_is_taken,
 ]

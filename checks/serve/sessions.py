@@ -14,7 +14,7 @@ from lib.sites import HOST, OCTETS, RULES, Site, free_port, open_site, response,
 NOTHING_COUNTED = (
     " denied_line 0 denied_closed 0 denied_unknown 0 denied_expired 0 denied_spent 0 failed_pages 0 failed_robots 0"
     " journal_octets 0 journal_syncs 0 slowest_sync 0"
-    " robots_no_name 0 robots_refused 0 robots_timed_out 0 robots_tls 0 robots_status 0 robots_other 0"
+    " robots_no_name 0 robots_refused 0 robots_timed_out 0 robots_tls 0 robots_status 0 robots_other 0 waiting 0"
 )
 
 

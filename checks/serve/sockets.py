@@ -10,6 +10,7 @@ from lib.cases import same
 from lib.server import SECONDS, Server, Session
 from lib.sites import open_site
 from clients import client_of
+from overseers import clients_wait_in_line
 from sessions import sealed
 
 # the user and the group `nobody`
@@ -146,4 +147,13 @@ def overseers_at_a_socket():
         same(os.listdir(folder), [])
 
 
-CASES = [loopback_alone, port_that_is_taken, socket_of_its_owner, clients_at_a_socket, overseers_at_a_socket]
+def clients_that_wait_at_a_socket():
+    """INFO counts those at a socket, too."""
+    with tempfile.TemporaryDirectory() as folder, Overseen(folder, "--workers", "1", "--connections", "4") as server:
+        clients_wait_in_line(server)
+
+
+CASES = [
+    loopback_alone, port_that_is_taken, socket_of_its_owner, clients_at_a_socket, overseers_at_a_socket,
+    clients_that_wait_at_a_socket,
+]

@@ -44,6 +44,7 @@ GAUGES = {
     "authorities": ("authorities", "Authorities that have an answer or a turn."),
     "room": ("room", "Entries that the history has room for."),
     "clients": ("clients", "Clients that are being served."),
+    "waiting": ("waiting", "Clients that wait for a worker."),
     "slowest_sync": ("journal_slowest_sync_microseconds", "The longest sync of the journal, in microseconds."),
 }
 

@@ -1,19 +1,15 @@
 -- The lists of the cache's contents have of each authority what its state has.
 -- Used by `Cache::standing_answers` and `Cache::turns`.
-use Rattle.std.proofs.Common.{◌≡◌, ℕ, ◌+◌, zero, suc, All, Bool, true, false, cond, List, [], ◌∷◌, ◌++◌, filter, take, get_or, Option, Some, None, is_some, string_bytes, unwrap_or, refl, sym, ap, subst, ◌∙◌, append_assoc, true≢false}
+use Rattle.std.proofs.Common.{◌≡◌, ℕ, ◌+◌, Bool, true, false, cond, List, [], ◌∷◌, ◌++◌, filter, take, get_or, Option, Some, None, unwrap_or, refl, sym, ap, subst, ◌∙◌, append_assoc}
 use Rattle.std.specs.Prelude.{slice_get}
-use Rattle.std.specs.declared.string.String.{String}
 use Rattle.std.specs.Map.{lookup}
 use Rattle.std.specs.Str.{bytes_eq}
 use Rattle.std.proofs.lemmas.List.{append-nil, take_more}
-use Rattle.std.proofs.lemmas.List.Elements.{All-head, All-tail, filter-append}
+use Rattle.std.proofs.lemmas.List.Elements.{filter-append}
 use Rattle.std.proofs.lemmas.Slice.Eq.{bytes_eq-Decides}
-use Rattle.path_normal.specs.Authority.{IsAuthority}
 use Rattle.authority_cache.specs.declared.site.Flight.{Flight}
-use Rattle.authority_cache.specs.declared.site.Site.{Site}
 use Rattle.authority_cache.specs.Lists.{answers_in, is_answer_for, is_turn_of, turns_in}
 use Rattle.authority_cache.specs.Sites.{Answered, AreApart, State, nothing_known}
-use Rattle.authority_cache.specs.Kept.{names_in}
 use Rattle.authority_cache.proofs.EntryLaws.{at-within}
 use Rattle.authority_cache.proofs.SiteLaws.{other_text, same_text}
 
@@ -83,10 +79,3 @@ listed-more has sites i e at =
     let there = at-within sites i e at in
     ap (all_of has) (take_more sites i e there.0)
     ∙ (all_more has (take i sites) (get_or sites i e) ∙ ap (λ (x : List ℕ × State). all_of has (take i sites) ++ has x.0 x.1) there.1)
-
-module _ {Y : Type 0} where
-  pub named-at : (es : List (String Y × Site)) (i : ℕ) (e : String Y × Site) → slice_get es i ≡ Some e → All IsAuthority (names_in es) → IsAuthority (string_bytes e.0)
-  named-at [] i e at all = absurd (true≢false (ap is_some (sym at)))
-  named-at (f ∷ es) zero e at all =
-      subst (λ (o : Option (String Y × Site)). IsAuthority (string_bytes (unwrap_or o f).0)) at (All-head IsAuthority (string_bytes f.0) (names_in es) all)
-  named-at (f ∷ es) (suc i) e at all = named-at es i e at (All-tail IsAuthority (string_bytes f.0) (names_in es) all)

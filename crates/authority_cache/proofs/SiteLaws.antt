@@ -1,17 +1,15 @@
 -- What is known of authorities, after an entry of the map was written or added.
 -- Used for `cache.rt`, `look.rt`, `begin.rt` and `arrive.rt`.
-use Rattle.std.proofs.Common.{◌≡◌, ℕ, ◌+◌, ◌<◌, ◌≤◌, ◌==◌, ◌&&◌, ◌||◌, ◌↔◌, All, Bool, true, false, cond, not, map, nat_le, List, [], ◌∷◌, ◌++◌, length, filter, Option, Some, None, unwrap_or, Result, Ok, Err, IsErr, IsOk, OnErr, OnOk, is_some, string_bytes, refl, sym, ap, subst, ◌∙◌, true≢false, arith}
+use Rattle.std.proofs.Common.{◌≡◌, ℕ, zero, suc, ◌+◌, ◌<◌, ◌≤◌, ◌==◌, ◌&&◌, ◌||◌, ◌↔◌, Bool, true, false, cond, not, nat_le, List, [], ◌∷◌, ◌++◌, length, filter, Option, Some, None, unwrap_or, Result, Ok, Err, IsErr, IsOk, OnErr, OnOk, is_some, string_bytes, refl, sym, ap, subst, ◌∙◌, true≢false, arith}
 use Rattle.std.specs.declared.string.String.{String}
 use Rattle.std.specs.List.{list_all}
-use Rattle.std.specs.Map.{keys_of, lookup, set_value}
+use Rattle.std.specs.Prelude.{slice_get}
+use Rattle.std.specs.Map.{lookup, set_value, values_of}
 use Rattle.std.specs.Option.{option_map, option_map_or}
 use Rattle.std.specs.Str.{bytes_eq}
 use Rattle.std.proofs.lemmas.Bool.{and_right, le-leb, lt-leb}
-use Rattle.std.proofs.lemmas.List.{map-append}
-use Rattle.std.proofs.lemmas.List.Elements.{All-append, All-cons, All-nil}
-use Rattle.std.proofs.lemmas.Map.{keys-set_value}
 use Rattle.std.proofs.lemmas.Slice.Eq.{bytes_eq-Decides}
-use Rattle.path_normal.specs.Authority.{IsAuthority}
+use Rattle.indexmap.specs.IndexMap.{set_value_at}
 use Rattle.authority_cache.specs.declared.refusal.FlightRefusal.{FlightRefusal}
 use Rattle.authority_cache.specs.declared.refusal.Stale.{Stale}
 use Rattle.authority_cache.specs.declared.site.Flight.{Flight}
@@ -19,7 +17,7 @@ use Rattle.authority_cache.specs.declared.site.Site.{Site}
 use Rattle.authority_cache.specs.Lives.{Timed}
 use Rattle.authority_cache.specs.Sites.{Answered, Known, State, arrived, count_of, flight_count, has_turn, is_flying, is_known, known_count, nothing_known, said_site, site_of, with_flight}
 use Rattle.authority_cache.specs.Calls.{Arrives, Changes, cannot_know, one_if}
-use Rattle.authority_cache.specs.Kept.{AllKnown, known_in, names_in, said_entries}
+use Rattle.authority_cache.specs.Kept.{AllKnown, AreNamed, IsNamed, known_in, said_entries}
 use Rattle.authority_cache.proofs.EntryLaws.{all-lookup, all-map, all-push, all-set_value, count-all, count-bound, count-map, count-push, count-set_value, lookup-map, lookup-push, lookup-push_other, set_value-same}
 
 pub same_text : (a : List ℕ) → bytes_eq a a ≡ true
@@ -78,16 +76,17 @@ module _ {Y : Type 0} where
       count_of test (known_in limit es) ≡ length (filter (λ e. test (said_site e.1)) es)
   counted test limit es = count-map string_bytes said_site test es
 
-  pub names-kept : (es es' : List (String Y × Site)) → keys_of es' ≡ keys_of es → names_in es' ≡ names_in es
-  names-kept es es' same = by_keys es' ∙ (ap (map string_bytes) same ∙ sym (by_keys es))
-    where
-      by_keys : (es : List (String Y × Site)) → names_in es ≡ map string_bytes (keys_of es)
-      by_keys [] = refl
-      by_keys (e ∷ es) = ap (λ names. string_bytes e.0 ∷ names) (by_keys es)
-
-  pub names-said : (es : List (String Y × Site)) → names_in es ≡ map (λ (e : List ℕ × State). e.0) (said_entries es)
-  names-said [] = refl
-  names-said (e ∷ es) = ap (λ names. string_bytes e.0 ∷ names) (names-said es)
+  -- a site that is written keeps its name
+  pub named-written : (es : List (String Y × Site)) (i : ℕ) (v w : Site) → slice_get (values_of es) i ≡ Some v → w.name ≡ v.name →
+      AreNamed es → AreNamed (set_value_at es i w)
+  named-written [] i v w value name named j x at = named j x at
+  named-written (f ∷ es) zero v w value name named zero x at =
+      let here : IsNamed (f.0, w) = name ∙ (ap (λ o. (unwrap_or o f.1).name) (sym value) ∙ named zero f refl) in
+      subst (λ (e : String Y × Site). IsNamed e) (ap (λ (o : Option (String Y × Site)). unwrap_or o f) at) here
+  named-written (f ∷ es) zero v w value name named (suc j) x at = named (suc j) x at
+  named-written (f ∷ es) (suc i) v w value name named zero x at = named zero x at
+  named-written (f ∷ es) (suc i) v w value name named (suc j) x at =
+      named-written es i v w value name (λ k e is. named (suc k) e is) j x at
 
   pub known_many : (limit : ℕ) (es : List (String Y × Site)) → AllKnown es → known_count (known_in limit es) ≡ length es
   known_many limit es all = counted is_known limit es ∙ count-all (λ e. is_known (said_site e.1)) es all.known
@@ -117,10 +116,10 @@ module _ {Y : Type 0} where
       ap (known_in limit) (written ∙ (ap (set_value (is_named a) es) same ∙ set_value-same (is_named a) es v found))
 
   pub known-written : (a : List ℕ) (es es' : List (String Y × Site)) (w : Site) → AllKnown es →
-      es' ≡ set_value (is_named a) es w → is_known (said_site w) ≡ true → AllKnown es'
-  known-written a es es' w all written known = record {
+      es' ≡ set_value (is_named a) es w → is_known (said_site w) ≡ true → AreNamed es' → AllKnown es'
+  known-written a es es' w all written known named = record {
     known = rw written (all-set_value (λ s. is_known (said_site s)) (is_named a) es w all.known known);
-    named = subst (All IsAuthority) (sym (ap names_in written ∙ names-kept es (set_value (is_named a) es w) (keys-set_value (is_named a) es w))) all.named;
+    named = named;
   }
 
   pub begun-known : (limit : ℕ) (a : List ℕ) (flight : Flight) (es es' : List (String Y × Site)) (v w : Site) → lookup (is_named a) es ≡ Some v →
@@ -135,8 +134,8 @@ module _ {Y : Type 0} where
       AllKnown es → lookup (is_named a) es ≡ Some v → es' ≡ set_value (is_named a) es w →
       ((b : List ℕ) → lookup (is_named b) es' ≡ cond (bytes_eq a b) (Some w) (lookup (is_named b) es)) →
       (IsOk r ↔ (has_turn turn (said_site v) ≡ true)) → OnOk r (said_site w ≡ arrived turn answer.says answer.life (said_site v)) → OnErr r (w ≡ v) →
-      Arrives (known_in limit es) a turn answer r (known_in limit es') × AllKnown es'
-  arrived-known limit a turn answer es es' v w (Ok done) all found written others has now same =
+      AreNamed es' → Arrives (known_in limit es) a turn answer r (known_in limit es') × AllKnown es'
+  arrived-known limit a turn answer es es' v w (Ok done) all found written others has now same named =
       let state = state-some limit a es v found in
       let changes = Changes-written limit a es es' v w found written others in
       let flying = has.0 refl in (
@@ -145,7 +144,7 @@ module _ {Y : Type 0} where
           subst (λ s. Changes (known_in limit es) a (arrived turn answer.says answer.life s) (known_in limit es')) (sym state)
               (subst (λ s. Changes (known_in limit es) a s (known_in limit es')) now changes),
         ),
-        known-written a es es' w all written (ap is_known now ∙ answered (said_site v).in_flight flying),
+        known-written a es es' w all written (ap is_known now ∙ answered (said_site v).in_flight flying) named,
       )
     where
       answer_of : Flight → Answered
@@ -154,11 +153,11 @@ module _ {Y : Type 0} where
       answered : (o : Option Flight) → option_map_or (λ flight. flight.turn == turn) o false ≡ true → (is_some (option_map answer_of o) || false) ≡ true
       answered (Some flight) is = refl
       answered None is = absurd (true≢false (sym is))
-  arrived-known limit a turn answer es es' v w (Err stale) all found written others has now same =
+  arrived-known limit a turn answer es es' v w (Err stale) all found written others has now same named =
       let state = state-some limit a es v found in
       let was_known = all-lookup (λ s. is_known (said_site s)) (is_named a) es v all.known found in (
         (rw state (by (has_turn turn (said_site v)) refl), unchanged-written limit a es es' v w found written same),
-        known-written a es es' w all written (subst (λ s. is_known (said_site s) ≡ true) (sym same) was_known),
+        known-written a es es' w all written (subst (λ s. is_known (said_site s) ≡ true) (sym same) was_known) named,
       )
     where
       by : (b : Bool) → has_turn turn (said_site v) ≡ b → has_turn turn (said_site v) ≡ false
@@ -207,20 +206,14 @@ module _ {Y : Type 0} where
       (subst (λ sites. Changes (known_in limit es) a (with_flight flight nothing_known) (record { limit = limit; sites = sites })) (sym added)
       (Changes-added limit a (with_flight flight nothing_known) (said_entries es) unsaid))
 
-  pub known-new : (a : List ℕ) (flight : Flight) (es es' : List (String Y × Site)) (r : Result Unit FlightRefusal) → AllKnown es → IsAuthority a →
-      OnOk r (said_entries es' ≡ said_entries es ++ (a, with_flight flight nothing_known) ∷ []) → OnErr r (es' ≡ es) → AllKnown es'
-  known-new a flight es es' (Ok done) all own added same =
+  pub known-new : (a : List ℕ) (flight : Flight) (es es' : List (String Y × Site)) (r : Result Unit FlightRefusal) → AllKnown es →
+      (AreNamed es → AreNamed es') → OnOk r (said_entries es' ≡ said_entries es ++ (a, with_flight flight nothing_known) ∷ []) → OnErr r (es' ≡ es) → AllKnown es'
+  known-new a flight es es' (Ok done) all named added same =
       let old : list_all (λ (p : List ℕ × State). is_known p.1) (said_entries es) ≡ true = all-map string_bytes said_site is_known es ∙ all.known in
       let new : list_all (λ (p : List ℕ × State). is_known p.1) (said_entries es') ≡ true =
       rw added (all-push (λ (p : List ℕ × State). is_known p.1) (said_entries es) (a, with_flight flight nothing_known) old refl) in
-      let names : names_in es' ≡ names_in es ++ a ∷ [] =
-      names-said es' ∙ (ap (map (λ (e : List ℕ × State). e.0)) added ∙ (map-append (λ (e : List ℕ × State). e.0) (said_entries es) ((a, with_flight flight nothing_known) ∷ [])
-      ∙ ap (λ names. names ++ a ∷ []) (sym (names-said es)))) in
-      record {
-        known = sym (all-map string_bytes said_site is_known es') ∙ new;
-        named = subst (All IsAuthority) (sym names) (All-append IsAuthority (names_in es) (a ∷ []) all.named (All-cons IsAuthority a [] own (All-nil IsAuthority)));
-      }
-  known-new a flight es es' (Err refusal) all own added same = subst (λ entries. AllKnown entries) (sym same) all
+      record { known = sym (all-map string_bytes said_site is_known es') ∙ new; named = named all.named }
+  known-new a flight es es' (Err refusal) all named added same = subst (λ entries. AllKnown entries) (sym same) all
 
   pub flights_bound : (limit : ℕ) (es : List (String Y × Site)) → flight_count (known_in limit es) ≤ length es
   flights_bound limit es = rw (counted is_flying limit es) (count-bound (λ (e : String Y × Site). is_flying (said_site e.1)) es)

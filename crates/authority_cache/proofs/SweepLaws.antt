@@ -1,7 +1,7 @@
 -- A sweep leaves each state without an expired answer, and no authority
 -- of which nothing is known. Used for `sweep.rt`.
-use Rattle.std.proofs.Common.{◌≡◌, ℕ, ◌+◌, ◌-◌, ◌<◌, ◌≤◌, ◌==◌, ◌⊎◌, zero, suc, Bool, true, false, cond, not, if◌then◌else◌, List, [], ◌∷◌, ◌++◌, length, filter, inl, inr, Option, Some, None, IfSome, is_some, unwrap_or, string_bytes, refl, sym, ap, subst, ◌∙◌, true≢false, arith}
-use Rattle.std.specs.Prelude.{All, get_or, set, slice_get, swap_remove, take}
+use Rattle.std.proofs.Common.{◌≡◌, ℕ, ◌+◌, ◌<◌, ◌≤◌, ◌==◌, ◌⊎◌, zero, suc, Bool, true, false, cond, not, if◌then◌else◌, List, [], ◌∷◌, ◌++◌, length, filter, inl, inr, Option, Some, None, IfSome, is_some, unwrap_or, string_bytes, refl, sym, ap, subst, ◌∙◌, true≢false, arith}
+use Rattle.std.specs.Prelude.{slice_get, swap_remove}
 use Rattle.std.specs.declared.string.String.{String}
 use Rattle.std.specs.List.{AllByRecursion, IsDistinct, list_all}
 use Rattle.std.specs.Map.{keys_of, lookup, values_of}
@@ -9,23 +9,19 @@ use Rattle.std.specs.Option.{option_map}
 use Rattle.std.specs.Str.{bytes_eq}
 use Rattle.std.specs.String.{string_eq}
 use Rattle.std.proofs.lemmas.Bool.{eqb-true, eqb-false, not-true}
-use Rattle.std.proofs.lemmas.List.{get_or_default}
-use Rattle.std.proofs.lemmas.List.Elements.{All-tail}
-use Rattle.std.proofs.lemmas.List.Sorted.{All-permutation, IsPermutation-map, IsPermutation-swap_remove}
 use Rattle.std.proofs.lemmas.Slice.Eq.{bytes_eq-Decides}
 use Rattle.indexmap.specs.IndexMap.{set_value_at}
 use Rattle.indexmap.specs.Layout.{length-set_value_at}
-use Rattle.path_normal.specs.Authority.{IsAuthority}
 use Rattle.authority_cache.specs.declared.site.Flight.{Flight}
 use Rattle.authority_cache.specs.declared.site.Site.{Site}
 use Rattle.authority_cache.specs.Sites.{Answered, AreApart, Known, State, count_of, flight_count, has_past, is_flying, is_known, nothing_known, past_count, said_site, site_of, swept}
 use Rattle.authority_cache.specs.Calls.{Changes, Sweeps, one_if}
 use Rattle.authority_cache.specs.Ends.{Covers, CoversBut, DropsAnswer, KeptEnds, Removes, SaysPastAt, SweepsPart, has_end, last_moment}
-use Rattle.authority_cache.specs.Kept.{AllKnown, known_in, names_in, said_entries}
+use Rattle.authority_cache.specs.Kept.{AllKnown, AreNamed, IsNamed, known_in, said_entries}
 use Rattle.authority_cache.proofs.EntryLaws.{all-at, all-from, all-lookup, at-push, at-swapped, at-written, at-written_other, count-alike, count-bound, count-none, count-swapped, entry-at, keys-written, length-swapped}
 use Rattle.authority_cache.proofs.EndLaws.{covers_all}
 use Rattle.authority_cache.proofs.FoundLaws.{found_at, others_at, said_at, written_at}
-use Rattle.authority_cache.proofs.SiteLaws.{Changes-written, counted, found-said, is_named, names-kept, state-none, state-some}
+use Rattle.authority_cache.proofs.SiteLaws.{Changes-written, counted, found-said, is_named, named-written, state-none, state-some}
 
 pub part_more : (old between new : Known) (moment count more : ℕ) → SweepsPart old moment count between → SweepsPart between moment more new →
     SweepsPart old moment (count + more) new
@@ -174,10 +170,10 @@ module _ {Y : Type 0} where
       }
 
   known_dropped : (es es' : List (String Y × Site)) (i : ℕ) (e : String Y × Site) (w : Site) → AllKnown es → slice_get es i ≡ Some e →
-      is_known (said_site w) ≡ true → es' ≡ set_value_at es i w → AllKnown es'
-  known_dropped es es' i e w all at known wrote = record {
+      is_known (said_site w) ≡ true → w.name ≡ e.1.name → es' ≡ set_value_at es i w → AllKnown es'
+  known_dropped es es' i e w all at known name wrote = record {
     known = all-from (λ e. is_known (said_site e.1)) es' each;
-    named = subst (All IsAuthority) (sym (names-kept es es' (ap keys_of wrote ∙ keys-written es i w))) all.named;
+    named = subst (λ (es : List (String Y × Site)). AreNamed es) (sym wrote) (named-written es i e.1 w (value_at es i e at) name all.named);
   }
     where
       each : (j : ℕ) (x : String Y × Site) → slice_get es' j ≡ Some x → is_known (said_site x.1) ≡ true
@@ -193,23 +189,15 @@ module _ {Y : Type 0} where
           by false other =
               all-at (λ e. is_known (said_site e.1)) es j x all.known (sym (at-written_other es i j w (eqb-false j i other)) ∙ there)
 
-  named_removed : (es : List (String Y × Site)) (i : ℕ) (d : String Y × Site) → i < length es → All IsAuthority (names_in es) →
-      All IsAuthority (names_in (swap_remove es i d))
-  named_removed es i d low all =
-      let x = get_or es i d in
-      let moved = IsPermutation-swap_remove es i x low (get_or_default es i d x low) in
-      let same : swap_remove es i d ≡ swap_remove es i x = ap (λ last. take (length es - 1) (set es i last)) (get_or_default es (length es - 1) d x (omega (arith, low))) in
-      subst (λ (left : List (String Y × Site)). All IsAuthority (names_in left)) (sym same)
-      (All-tail IsAuthority (string_bytes x.0) (names_in (swap_remove es i x))
-      (All-permutation IsAuthority (names_in es) (names_in (x ∷ swap_remove es i x)) (IsPermutation-map (λ (e : String Y × Site). string_bytes e.0) es (x ∷ swap_remove es i x) moved) all))
+  named_removed : (es : List (String Y × Site)) (i : ℕ) (d : String Y × Site) → i < length es → AreNamed es → AreNamed (swap_remove es i d)
+  named_removed es i d low named j x is = let was = (at-swapped es i j d x low is).1 in named was.0 x was.2
 
   known_removed : (es es' : List (String Y × Site)) (i : ℕ) (d : String Y × Site) (w : Site) → AllKnown es → i < length es →
-      es' ≡ swap_remove (set_value_at es i w) i d → AllKnown es'
-  known_removed es es' i d w all low taken = record {
+      AreNamed (set_value_at es i w) → es' ≡ swap_remove (set_value_at es i w) i d → AllKnown es'
+  known_removed es es' i d w all low named taken = record {
     known = all-from (λ e. is_known (said_site e.1)) es' each;
-    named = subst (λ (left : List (String Y × Site)). All IsAuthority (names_in left)) (sym taken)
-        (named_removed (set_value_at es i w) i d (rw (length-set_value_at es i w) low)
-        (subst (All IsAuthority) (sym (names-kept es (set_value_at es i w) (keys-written es i w))) all.named));
+    named = subst (λ (left : List (String Y × Site)). AreNamed left) (sym taken)
+        (named_removed (set_value_at es i w) i d (rw (length-set_value_at es i w) low) named);
   }
     where
       each : (j : ℕ) (x : String Y × Site) → slice_get es' j ≡ Some x → is_known (said_site x.1) ≡ true
@@ -249,7 +237,7 @@ module _ {Y : Type 0} where
       let none : (said_site w).standing ≡ None = ap (λ (s : State). s.standing) d.1.1 in
       let flies : is_known (said_site w) ≡ true = ap is_known d.1.1 ∙ sym d.0 in (
         part_dropped 0 moment es es' i e w (apart_from es distinct) at (sym (says e at)) d.1.1 wrote,
-        known_dropped es es' i e w all at flies wrote,
+        known_dropped es es' i e w all at flies d.1.3 wrote,
         covers_dropped es es' i e w kept at none wrote others,
         ap length wrote ∙ length-set_value_at es i w,
       )
@@ -281,7 +269,7 @@ module _ {Y : Type 0} where
         part_more (known_in 0 es) (known_in 0 es1) (known_in 0 es2) moment 1 0
             (part_dropped 0 moment es es1 i e w (apart_from es distinct) at (sym (says e at)) d.1.1 wrote)
             (part_removed 0 moment es1 es2 i (e.0, w) (apart_from es1 distinct1) at1 (d.1.1 ∙ unknown (said_site e.1) d.0) r.0 r.1),
-        known_removed es es2 i (e.0, w) w all low (r.0 ∙ ap (λ es. swap_remove es i (e.0, w)) wrote),
+        known_removed es es2 i (e.0, w) w all low (named-written es i e.1 w (value_at es i e at) d.1.3 all.named) (r.0 ∙ ap (λ es. swap_remove es i (e.0, w)) wrote),
         (let few = length-swapped es1 i (e.0, w) low1 in omega (arith, few, ap length r.0, ap length wrote, length-set_value_at es i w)),
       )
 
@@ -304,6 +292,13 @@ module _ {Y : Type 0} where
       covers_all i (set_value_at es i w) kept (but_written es (set_value_at es i w) i w kept refl (λ j x other at. covered j x at)) (λ x at.
       let is : w ≡ x.1 = ap (λ o. (unwrap_or o x).1) (sym (at-written es i e w there.1) ∙ at) in
       subst (λ (s : Site). IfSome (said_site s).standing (λ s. has_end kept (last_moment s, i) ≡ true)) is here)
+
+  pub named_added : (es : List (String Y × Site)) (e : String Y × Site) → IsNamed e → AreNamed es → AreNamed (es ++ e ∷ [])
+  named_added es e new named i x at = by (at-push es e x i at)
+    where
+      by : (slice_get es i ≡ Some x) ⊎ (e ≡ x) → IsNamed x
+      by (inl was) = named i x was
+      by (inr same) = subst (λ (y : String Y × Site). IsNamed y) same new
 
   pub covers_added : (es : List (String Y × Site)) (e : String Y × Site) (kept : KeptEnds) → (said_site e.1).standing ≡ None → Covers kept es →
       Covers kept (es ++ e ∷ [])

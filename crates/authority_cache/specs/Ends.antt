@@ -111,15 +111,16 @@ module _ {Y : Type 0} where
     pub many : length new.ends ≤ length old.ends + 1
     pub room : old.room ≤ new.room
 
-  -- the entry at this index has another value
-  abbrev pub Writes : List (String Y × Site) → ℕ → State → List (String Y × Site) → Type 0
-  Writes old site state new = (w : Site) × (said_site w ≡ state) × (new ≡ set_value_at old site w)
+  -- the entry at this index has another value, of that name
+  abbrev pub Writes : List (String Y × Site) → ℕ → List ℕ → State → List (String Y × Site) → Type 0
+  Writes old site name state new =
+      (w : Site) × (said_site w ≡ state) × (new ≡ set_value_at old site w) × (w.name ≡ name)
 
   -- the answer at this index is gone; whether a turn is in flight there
   abbrev pub DropsAnswer : List (String Y × Site) → ℕ → Bool → List (String Y × Site) → Type 0
   DropsAnswer old site is_fetching new = (e : String Y × Site) → slice_get old site ≡ Some e →
       (is_fetching ≡ is_flying (said_site e.1))
-      × Writes old site (record { standing = None; in_flight = (said_site e.1).in_flight }) new
+      × Writes old site e.1.name (record { standing = None; in_flight = (said_site e.1).in_flight }) new
 
   -- the entry of this index is gone, the last takes its place
   abbrev pub Removes : List (String Y × Site) → ℕ → List (String Y × Site) → Type 0

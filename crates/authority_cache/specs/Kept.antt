@@ -1,10 +1,9 @@
--- The cache's invariant: each site is known, by an authority's name; its count of turns is that
+-- The cache's invariant: each site is known, and found by its name; its count of turns is that
 -- of the sites; each answer's end is kept, with room for the turns in flight.
 -- Used in `cache.rt`.
-use Rattle.std.specs.Prelude.{◌≡◌, ℕ, true, All, List, map, string_bytes}
+use Rattle.std.specs.Prelude.{◌≡◌, ℕ, true, List, Some, map, slice_get, string_bytes}
 use Rattle.std.specs.List.{list_all}
 use Rattle.std.specs.declared.string.String.{String}
-use Rattle.path_normal.specs.Authority.{IsAuthority}
 use Rattle.authority_cache.specs.declared.cache.Cache.TheInside.{Inside}
 use Rattle.authority_cache.specs.declared.site.Site.{Site}
 use Rattle.authority_cache.specs.Ends.{Covers, HasRoomForEnds, KeptEnds}
@@ -22,14 +21,18 @@ said_entries entries = map said_entry entries
 abbrev pub known_in : {Y : Type 0} → ℕ → List (String Y × Site) → Known
 known_in limit entries = record { limit = limit; sites = said_entries entries }
 
--- the names of the map's entries
-abbrev pub names_in : {Y : Type 0} → List (String Y × Site) → List (List ℕ)
-names_in entries = map (λ e. string_bytes e.0) entries
+-- the text by which the map finds a site is the site's name
+abbrev pub IsNamed : {Y : Type 0} → String Y × Site → Type 0
+IsNamed e = e.1.name ≡ string_bytes e.0
 
--- each site is known, by an authority's name
+-- each site is found by its name
+abbrev pub AreNamed : {Y : Type 0} → List (String Y × Site) → Type 0
+AreNamed {Y = Y} entries = (i : ℕ) (e : String Y × Site) → slice_get entries i ≡ Some e → IsNamed e
+
+-- each site is known, and found by its name
 pub record AllKnown {Y : Type 0} (entries : List (String Y × Site)) : Type 0 where
   pub known : list_all (λ e. is_known (said_site e.1)) entries ≡ true
-  pub named : All IsAuthority (names_in entries)
+  pub named : AreNamed entries
 
 -- the cache as its callers see it
 abbrev pub known_of : Inside → Known

@@ -2,11 +2,10 @@
 //! RFC 9309, section 2.3.
 ghost use Rattle.std.specs.Prelude.{◌≡◌, ℕ, ◌+◌, ◌*◌, ◌^◌, ◌<◌, ◌≤◌, List, ◌∷◌, ◌++◌, [], None, IfErr, OnErr, OnOk, length};
 ghost use Rattle.std.specs.HashMap.{get_by_text};
-ghost use Rattle.path_normal.specs.Authority.{IsAuthority};
 ghost use Rattle.authority_cache.specs.Sites.{IsApart, nothing_known, site_of, with_flight};
 ghost use Rattle.authority_cache.specs.Calls.{Begins, Changes, IsFound, MayBegin};
 ghost use Rattle.authority_cache.specs.Ends.{Covers, HasRoomForEnds, KeptEnds};
-ghost use Rattle.authority_cache.specs.Kept.{AllKnown, known_in, said_entries};
+ghost use Rattle.authority_cache.specs.Kept.{AllKnown, AreNamed, known_in, said_entries};
 
 use crate::cache::{Cache, Sites};
 use crate::ends::{Ends, keep_end};
@@ -132,7 +131,7 @@ fn open(
 
 fn add(sites: &mut Sites, authority: &Authority, flight: Flight) -> Result<(), FlightRefusal>
     requires { get_by_text sites.old authority.now ≡ None }
-    ensures own { IsAuthority authority.now }
+    ensures named { AreNamed sites.old.entries → AreNamed sites.new.entries }
     ensures ok { OnOk result (said_entries sites.new.entries ≡ said_entries sites.old.entries
         ++ (authority.now, with_flight flight nothing_known) ∷ []) }
     ensures err { IfErr result (λ refusal. refusal ≡ FlightRefusal.NoMemory) }
@@ -142,6 +141,7 @@ fn add(sites: &mut Sites, authority: &Authority, flight: Flight) -> Result<(), F
 {
     let name = String::from_str(*sites.allocator(), authority.text())?;
     let site = Site {
+        name: authority.copy()?,
         standing: None,
         in_flight: Some(flight),
     };

@@ -7,6 +7,7 @@ ghost use Rattle.authority_cache.specs.Sites.{arrived, has_past, has_turn, is_kn
 use crate::life::TimedAnswer;
 use crate::refusal::Stale;
 use crate::turn::TurnNo;
+use path_normal::Authority;
 use robots_verdict::Answer;
 
 /// A turn in flight.
@@ -34,6 +35,8 @@ pub struct CachedAnswer {
 /// What is known of an authority.
 #[derive(Drop)]
 pub struct Site {
+    /// The authority, whose text the lists that outlive the cache share.
+    pub name: Authority,
     /// Its answer.
     pub standing: Option<CachedAnswer>,
     /// Its turn in flight.
@@ -86,7 +89,8 @@ impl Site {
 
     /// Begins a turn.
     pub fn begin(&mut self, flight: Flight)
-        ensures { said_site self.new ≡ with_flight flight (said_site self.old) }
+        ensures begun { said_site self.new ≡ with_flight flight (said_site self.old) }
+        ensures name { self.new.name ≡ self.old.name }
     {
         self.in_flight = Some(flight);
     }
@@ -101,6 +105,7 @@ impl Site {
         ensures turn { IsOk result ↔ (has_turn turn (said_site self.old) ≡ true) }
         ensures ok { OnOk result (said_site self.new
             ≡ arrived turn answer.says answer.life (said_site self.old)) }
+        ensures name { self.new.name ≡ self.old.name }
         ensures err { OnErr result (self.new ≡ self.old) }
     {
         let in_flight = self.in_flight;

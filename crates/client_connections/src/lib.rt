@@ -4,6 +4,7 @@
 
 mod accept_fault;
 mod at_hand;
+mod backlog;
 mod client_stream;
 mod closing;
 mod connections;

@@ -1,9 +1,10 @@
 //! Where clients connect.
 
 use crate::accept_fault::{AcceptFault, MAX_ACCEPT_FAULTS};
+use crate::backlog::Backlog;
 use crate::socket_file::bind_socket_file;
 use std::alloc::Global;
-use std::fs::Files;
+use std::fs::{File, Files};
 use std::io::ErrorKind;
 use std::net::{Ipv4Addr, Net, Shutdown, SocketAddr, TcpListener, TcpStream};
 use std::os::fd::OwnedFd;
@@ -13,7 +14,10 @@ use std::{io, thread, time};
 
 /// Where clients of this machine connect: a loopback port, or a socket file.
 #[derive(Drop)]
-pub struct Listener(Endpoint);
+pub struct Listener {
+    endpoint: Endpoint,
+    backlog: Backlog,
+}
 
 #[derive(Drop)]
 enum Endpoint {
@@ -28,7 +32,7 @@ impl Listener {
         port: u16,
     ) -> io::Result<Listener> {
         let address = SocketAddr::from((Ipv4Addr::LOCALHOST, port));
-        Ok(Listener(Endpoint::Port(TcpListener::bind(rt, address)?)))
+        Ok(Listener::of(Endpoint::Port(TcpListener::bind(rt, address)?)))
     }
 
     /// Listens at a socket file, as `bind_socket_file` does.
@@ -37,12 +41,34 @@ impl Listener {
         alloc: Global,
         path: &str,
     ) -> io::Result<Listener> {
-        Ok(Listener(Endpoint::File(bind_socket_file(rt, alloc, path)?)))
+        Ok(Listener::of(Endpoint::File(bind_socket_file(rt, alloc, path)?)))
+    }
+
+    fn of(endpoint: Endpoint) -> Listener {
+        Listener {
+            endpoint,
+            backlog: Backlog::Untold,
+        }
+    }
+
+    /// This listener, which can tell how many clients wait, if the system has a table of its sockets.
+    pub fn counting<R: Files<File = File>>(self, rt: &R, alloc: Global) -> Listener {
+        let Listener {
+            endpoint,
+            backlog: _,
+        } = self;
+        let backlog = backlog_of(rt, alloc, &endpoint).unwrap_or(Backlog::Untold);
+        Listener { endpoint, backlog }
+    }
+
+    /// How many clients have connected and were not accepted yet, as the system tells it; 0 if it does not.
+    pub fn waiting(&self) -> u64 {
+        self.backlog.count()
     }
 
     /// The port, or `Unsupported` for a socket file.
     pub fn port(&self) -> io::Result<u16> {
-        match &self.0 {
+        match &self.endpoint {
             Endpoint::Port(listener) => Ok(listener.local_addr()?.port()),
             Endpoint::File(_) => Err(io::Error::from(ErrorKind::Unsupported)),
         }
@@ -51,7 +77,7 @@ impl Listener {
     /// Stops accepting: waiting accepts end with a device fault. It fails if there is no descriptor.
     pub fn shut(&self) -> io::Result<()> {
         // A shutdown is a call of a descriptor, and wakes each `accept` of it.
-        let descriptor = match &self.0 {
+        let descriptor = match &self.endpoint {
             Endpoint::Port(listener) => OwnedFd::from(listener.try_clone()?),
             Endpoint::File(listener) => OwnedFd::from(listener.try_clone()?),
         };
@@ -73,9 +99,26 @@ impl Listener {
     }
 
     fn set_nonblocking(&self, nonblocking: bool) -> io::Result<()> {
-        match &self.0 {
+        match &self.endpoint {
             Endpoint::Port(listener) => listener.set_nonblocking(nonblocking),
             Endpoint::File(listener) => listener.set_nonblocking(nonblocking),
+        }
+    }
+}
+
+fn backlog_of<R: Files<File = File>>(
+    rt: &R,
+    alloc: Global,
+    endpoint: &Endpoint,
+) -> io::Result<Backlog> {
+    match endpoint {
+        Endpoint::Port(listener) => Ok(Backlog::of_port(rt, alloc, listener.local_addr()?.port())),
+        Endpoint::File(listener) => {
+            let address = listener.local_addr()?;
+            match address.as_pathname() {
+                Some(path) => Ok(Backlog::of_file(rt, alloc, path.to_string_lossy())),
+                None => Ok(Backlog::Untold),
+            }
         }
     }
 }
@@ -92,7 +135,7 @@ impl Accepts for Listener {
     type Stream = TcpStream;
 
     fn accept_next(&self) -> io::Result<TcpStream> {
-        match &self.0 {
+        match &self.endpoint {
             Endpoint::Port(listener) => {
                 let (stream, _) = listener.accept()?;
                 // Replies are written whole, so they need not wait for more.

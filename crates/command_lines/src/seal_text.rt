@@ -1,5 +1,5 @@
 //! The reply to SEAL (docs/FORMATS.md, replies): a segment's text, written directly from it.
-ghost use Rattle.std.specs.Prelude.{◌≡◌, ◌-◌, ◌^◌, min};
+ghost use Rattle.std.specs.Prelude.{◌≡◌, ◌-◌, ◌^◌, min, length};
 ghost use Rattle.counted_io.specs.Output.{Pushes};
 ghost use Rattle.command_lines.specs.SealText.{handed_text, line_count, lines_before, seal_text, sealed_line};
 ghost use Rattle.line_text.specs.Pieces.{pieces_text};
@@ -64,10 +64,18 @@ fn lines_before(base: &Base) -> u64
     if base.entries() == 0 {
         return 1;
     }
-    (base.standing().len() as u64)
+    answer_count(base)
         .saturating_add(base.in_flight().len() as u64)
         .saturating_add(base.grants().len() as u64)
         .saturating_add(base.unspent().len() as u64)
         .saturating_add(base.running().len() as u64)
         .saturating_add(3)
+}
+
+// How many answers stand.
+#[tactic(auto, using(std::proofs::lemmas::List::Sorted::length_permutation))]
+fn answer_count(base: &Base) -> u64
+    ensures { result ≡ length base.now.standing }
+{
+    base.standing().len() as u64
 }

@@ -57,20 +57,21 @@ unheard_of_info faults =
     ++ (codes " robots_refused " ++ (decimal faults.refused
     ++ (codes " robots_timed_out " ++ (decimal faults.timed_out ++ codes " robots_tls "))))
 
--- the other failed fetches of robots.txt files, by cause
-unfoldable pub refusals_of_info : RobotsFaults → List ℕ
-refusals_of_info faults =
-    decimal faults.tls
-    ++ (codes " robots_status " ++ (decimal faults.status
-    ++ (codes " robots_other " ++ (decimal faults.other ++ codes "\n"))))
+-- the other failed fetches of robots.txt files, by cause, and the clients that wait
+unfoldable pub refusals_of_info : ServerCounts → List ℕ
+refusals_of_info server =
+    decimal server.robots_faults.tls
+    ++ (codes " robots_status " ++ (decimal server.robots_faults.status
+    ++ (codes " robots_other " ++ (decimal server.robots_faults.other
+    ++ (codes " waiting " ++ (decimal server.waiting ++ codes "\n"))))))
 
--- the failed fetches of robots.txt files by cause
-abbrev pub causes_of_info : RobotsFaults → List ℕ
-causes_of_info faults = unheard_of_info faults ++ refusals_of_info faults
+-- the failed fetches of robots.txt files by cause, and the clients that wait
+abbrev pub causes_of_info : ServerCounts → List ℕ
+causes_of_info server = unheard_of_info server.robots_faults ++ refusals_of_info server
 
 -- what follows the fetches without a response
 abbrev pub records_of_info : ServerCounts → List ℕ
-records_of_info server = journal_of_info server.journal ++ causes_of_info server.robots_faults
+records_of_info server = journal_of_info server.journal ++ causes_of_info server
 
 -- what follows the denials
 abbrev pub work_of_info : ServerCounts → List ℕ

@@ -38,7 +38,7 @@ pub fn serve<R: Source, W: Sink, K: Keeper, C: NumberedClock>(
     ensures writes { W.failures writer.new
         ≡ failures_after_writes (W.failures writer.old) result }
 {
-    let counters = ServerCounters::new(None, None);
+    let counters = ServerCounters::new(None, None, None);
     serve_from(
         alloc,
         reader,

@@ -92,20 +92,20 @@ fn push_records<W: Sink>(
         (records_of_info server) result }
 {
     journal_pieces(server.journal).push(output, sink)?;
-    push_causes(server.robots_faults, output, sink)
+    push_causes(server, output, sink)
 }
 
 fn push_causes<W: Sink>(
-    faults: RobotsFaults,
+    server: ServerCounts,
     output: &mut Output,
     sink: &mut W,
 ) -> Result<(), DeviceFault>
     ensures { Pushes (W.written sink.old) (W.written sink.new)
         (W.failures sink.old) (W.failures sink.new) output.old output.new
-        (causes_of_info faults) result }
+        (causes_of_info server) result }
 {
-    unheard_pieces(faults).push(output, sink)?;
-    refusal_pieces(faults).push(output, sink)
+    unheard_pieces(server.robots_faults).push(output, sink)?;
+    refusal_pieces(server).push(output, sink)
 }
 
 // The entries, the starts, and the permits out.
@@ -218,17 +218,19 @@ fn unheard_pieces(faults: RobotsFaults) -> Pieces<'static>
     ])
 }
 
-// The other failed fetches of robots.txt files, by cause.
+// The other failed fetches of robots.txt files, by cause, and the clients that wait.
 #[tactic(auto, unfolding(crate::specs::InfoText::refusals_of_info))]
-fn refusal_pieces(faults: RobotsFaults) -> Pieces<'static>
-    ensures { pieces_text result ≡ refusals_of_info faults }
+fn refusal_pieces(server: ServerCounts) -> Pieces<'static>
+    ensures { pieces_text result ≡ refusals_of_info server }
 {
     Pieces::of(&[
-        Piece::Number(faults.tls),
+        Piece::Number(server.robots_faults.tls),
         Piece::Text(" robots_status "),
-        Piece::Number(faults.status),
+        Piece::Number(server.robots_faults.status),
         Piece::Text(" robots_other "),
-        Piece::Number(faults.other),
+        Piece::Number(server.robots_faults.other),
+        Piece::Text(" waiting "),
+        Piece::Number(server.waiting),
         Piece::Text("\n"),
     ])
 }

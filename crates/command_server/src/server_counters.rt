@@ -3,6 +3,7 @@
 //! A session without a server counts for itself.
 
 use authority_cache::TurnNo;
+use client_connections::Listener;
 use crawl_job::Hop;
 use fetchers::{ClosedBy, FetchMeter, RobotsFaults};
 use gate_history::Cause;
@@ -31,6 +32,8 @@ pub struct ServerCounts {
     pub connections: u64,
     /// How many clients are being served.
     pub clients: u64,
+    /// How many have connected and wait for a worker, as the system tells it.
+    pub waiting: u64,
     /// The denials that clients were told of.
     pub denials: DenialCounts,
     /// How many fetches of pages gave no response.
@@ -59,13 +62,16 @@ pub struct ServerCounters<'a> {
     clients: AtomicU64,
     denials: DenialCounters,
     failed_pages: AtomicU64,
+    listener: Option<&'a Listener>,
     fetches: Option<&'a FetchMeter>,
     journal: Option<&'a JournalMeter>,
 }
 
 impl<'a> ServerCounters<'a> {
-    /// Nothing so far, beside what counts for its fetcher and its journal, if anything does.
+    /// Nothing so far, beside where its clients wait and what counts for its fetcher and its journal, if
+    /// anything does.
     pub fn new(
+        listener: Option<&'a Listener>,
         fetches: Option<&'a FetchMeter>,
         journal: Option<&'a JournalMeter>,
     ) -> ServerCounters<'a> {
@@ -74,6 +80,7 @@ impl<'a> ServerCounters<'a> {
             clients: AtomicU64::new(0),
             denials: DenialCounters::new(),
             failed_pages: AtomicU64::new(0),
+            listener,
             fetches,
             journal,
         }
@@ -122,6 +129,10 @@ impl<'a> ServerCounters<'a> {
         ServerCounts {
             connections: self.connections.load(Ordering::Relaxed),
             clients: self.clients.load(Ordering::Relaxed),
+            waiting: match self.listener {
+                Some(listener) => listener.waiting(),
+                None => 0,
+            },
             denials: self.denials.read(),
             failed_pages: self.failed_pages.load(Ordering::Relaxed),
             failed_robots: match self.fetches {

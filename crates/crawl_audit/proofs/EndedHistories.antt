@@ -16,7 +16,7 @@ use Rattle.gate_history.specs.Outstanding.{running, unspent}
 use Rattle.gate_history.specs.Seal.{SaysAs}
 use Rattle.gate_history.specs.Standing.{in_flight}
 use Rattle.crawl_audit.specs.Ending.{AllFollow, ends_of, finish, give_back, unanswered}
-use Rattle.crawl_audit.proofs.OneOrder.{same_text}
+use Rattle.gate_history.proofs.CallerLemmas.{same_text}
 
 -- ---- lists with the same elements
 

@@ -23,7 +23,7 @@ use Rattle.crawl_audit.specs.Loading.{LoadsAnswer, LoadsTurn, flight_of}
 use Rattle.crawl_audit.specs.OpenRows.{OpenRow, Answered, IsOpenRow, MayStand, rows_of, with_row}
 use Rattle.crawl_audit.specs.Tables.{TellsAll, TellsNumbers}
 use Rattle.crawl_audit.proofs.Numbering.{still}
-use Rattle.crawl_audit.proofs.OneOrder.{same_text}
+use Rattle.gate_history.proofs.CallerLemmas.{same_text}
 use Rattle.crawl_audit.proofs.RowKinds.{FromKind, rows_by_kinds}
 use Rattle.crawl_audit.proofs.RowOrder.{last_push, others_none}
 use Rattle.crawl_audit.proofs.StandingRows.{no_turns}

@@ -24,7 +24,7 @@ use Rattle.history_text.specs.Texts.{IsTextBase}
 use Rattle.crawl_audit.specs.Loading.{risen, with_numbers}
 use Rattle.crawl_audit.specs.NextBase.{Expects, IsNextOf, TellsLeft, base_in, lines_behind}
 use Rattle.crawl_audit.specs.Tables.{Lasts, Tells, TellsAll, TellsNumbers, grants_under}
-use Rattle.crawl_audit.proofs.OneOrder.{Among, among_filter}
+use Rattle.gate_history.proofs.CallerLemmas.{Among, among_filter}
 
 -- ---- tables that agree with a history
 

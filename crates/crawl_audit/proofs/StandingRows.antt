@@ -35,7 +35,7 @@ use Rattle.crawl_audit.specs.FirstBase.{SaysBase, fits, is_behind, is_granted, i
 use Rattle.crawl_audit.specs.OpenRows.{OpenRow, Answered, InFlight, Greatest, Unspent, Running, IsOpenRow, MayStand, rows_of, with_row}
 use Rattle.crawl_audit.specs.Tables.{Tells, TellsNumbers, lasts_of, phases_of, running_under, unspent_under}
 use Rattle.crawl_audit.proofs.Numbering.{covered_is}
-use Rattle.crawl_audit.proofs.OneOrder.{nat_tie, same_text, text_tie}
+use Rattle.gate_history.proofs.CallerLemmas.{nat_tie, same_text, text_tie}
 use Rattle.crawl_audit.proofs.RowFronts.{answer_before, grant_before, permit_before, turn_before}
 use Rattle.crawl_audit.proofs.RowKinds.{FromKind, grants_are, grants_at, kind, rows_by_kinds, running_are, running_at, stands_behind, turns_are, turns_at, unspent_are, unspent_at}
 use Rattle.crawl_audit.proofs.RowOrder.{behind_all, behind_kind, behind_last, kinds_push, last_append, less_behind, none_above, others_none}

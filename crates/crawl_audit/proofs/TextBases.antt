@@ -21,7 +21,7 @@ use Rattle.gate_history.specs.Grants.{IsSlotGrant, is_covered, is_in}
 use Rattle.history_text.specs.BaseFields.{HasNumbers, IsAnswerRow, IsGrantRow, IsPermitRow, IsTurnRow}
 use Rattle.history_text.specs.Texts.{IsTextBase}
 use Rattle.crawl_audit.specs.OpenRows.{Answered, InFlight, Greatest, Unspent, Running, IsOpenRow, with_row}
-use Rattle.crawl_audit.proofs.OneOrder.{irreflexive}
+use Rattle.gate_history.proofs.CallerLemmas.{irreflexive}
 use Rattle.crawl_audit.proofs.RowFronts.{answer_before, grant_before, permit_before, turn_before}
 use Rattle.crawl_audit.proofs.RowOrder.{none_like, once_push, push_sorted}
 

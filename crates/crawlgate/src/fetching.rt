@@ -4,7 +4,7 @@ ghost use Rattle.program_arguments.specs.Contacts.{IsAllowedContact};
 
 use fetchers::{FULL_CLOSURE, TcpFetcher};
 use http_client::{AddressBlock, Reach, TimeLimits};
-use program_arguments::Contact;
+use program_arguments::{Contact, PageConnections};
 use std::alloc::AllocError;
 use std::net::SocketAddr;
 
@@ -24,6 +24,8 @@ pub(crate) struct Ways<'a> {
     pub(crate) tls_by: Option<SocketAddr>,
     /// For how many seconds a network fault keeps a site closed, if not for its answer's life.
     pub(crate) retry_closed: Option<u64>,
+    /// Over which connections pages are fetched.
+    pub(crate) page_connections: PageConnections,
     /// How many octets of robots texts are kept together, if that is bounded.
     pub(crate) texts: Option<u64>,
     /// How many octets of a page are read at most, if not the usual number.
@@ -46,6 +48,10 @@ pub(crate) fn new_fetcher(
     let fetcher = match ways.page_limit {
         Some(most) => fetcher.with_page_limit(most as usize),
         None => fetcher,
+    };
+    let fetcher = match ways.page_connections {
+        PageConnections::Kept => fetcher.keeping_alive(),
+        PageConnections::Single => fetcher,
     };
     match contact {
         Contact::Untold => Ok(fetcher),

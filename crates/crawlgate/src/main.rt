@@ -70,6 +70,7 @@ fn shift<R: Threads + Wait + time::Clock + Sync>(
         not_to: options.not_to.as_slice(),
         tls_by: options.tls_by,
         retry_closed: options.retry_closed,
+        page_connections: options.page_connections,
         texts: None,
         page_limit: None,
     };

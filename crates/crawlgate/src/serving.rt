@@ -155,10 +155,11 @@ struct Entrances<'a, R: Wait + time::Clock> {
 }
 
 fn listen(host: &HostRuntime, place: &ListenAddress) -> io::Result<Listener> {
-    match place {
-        ListenAddress::Port(port) => Listener::bind(host, *port),
-        ListenAddress::Socket(path) => Listener::bind_socket(host, host.alloc(), path.as_str()),
-    }
+    let listener = match place {
+        ListenAddress::Port(port) => Listener::bind(host, *port)?,
+        ListenAddress::Socket(path) => Listener::bind_socket(host, host.alloc(), path.as_str())?,
+    };
+    Ok(listener.counting(host, host.alloc()))
 }
 
 // Reports where it listens: only the listeners know the free ports that they got.
@@ -226,6 +227,7 @@ fn serve_clients<R: Threads + Wait + time::Clock + Sync>(
         not_to: options.not_to.as_slice(),
         tls_by: options.tls_by,
         retry_closed: options.retry_closed,
+        page_connections: options.page_connections,
         texts: options.texts,
         page_limit: Some(options.page_limit),
     };

@@ -3,6 +3,8 @@
 use Rattle.std.specs.Prelude.{◌≡◌, ℕ, List, [], ◌++◌, Option, None, Some, IfSome, Result, String, codes, string_bytes}
 use Rattle.std.specs.declared.alloc.Global.{Global}
 use Rattle.http_client.specs.Agent.{IsAgent}
+use Rattle.http_wire.specs.declared.ending.ConnectionEnding.{ConnectionEnding}
+use Rattle.http_wire.specs.declared.ending.ConnectionEnding.TheVariants.{Close}
 use Rattle.http_wire.specs.declared.fault.WireFault.{WireFault}
 use Rattle.http_wire.specs.declared.response.HttpReply.{HttpReply}
 use Rattle.http_wire.specs.Response.{Tells}
@@ -16,7 +18,8 @@ use Rattle.fetchers.specs.Limits.{full_closure, no_bound, page_limit}
 
 -- a fetcher: its agent for robots.txt files, the comment after agents of pages, if any, its time limits, its reach, the
 -- blocks that it doesn't connect to, the schemes of its pages, the most octets of a page's body, those of the robots
--- texts that it keeps, and for how many seconds a network fault keeps a site closed
+-- texts that it keeps, for how many seconds a network fault keeps a site closed, and what becomes of a connection
+-- after a page
 pub record TcpView : Type 0 where
   pub agent : List ℕ
   pub contact : Option (List ℕ)
@@ -27,6 +30,7 @@ pub record TcpView : Type 0 where
   pub page_limit : ℕ
   pub texts : ℕ
   pub closed_for : ℕ
+  pub ending : ConnectionEnding
 
 -- an agent and its comment, if any. RFC 9110, sections 5.6.5 and 10.1.5
 abbrev pub agent_with : List ℕ → Option (List ℕ) → List ℕ
@@ -47,8 +51,8 @@ abbrev pub schemes_by : Option SocketAddr → Schemes
 schemes_by None = Http
 schemes_by (Some program) = HttpAndHttps
 
--- a new fetcher: no comment, no block avoided, the usual limit of pages, no bound of robots texts, and closed sites as
--- long as their answers live
+-- a new fetcher: no comment, no block avoided, the usual limit of pages, no bound of robots texts, closed sites as
+-- long as their answers live, and a connection for each page
 abbrev pub IsFetcherOf : List ℕ → TimeLimits → Reach → Schemes → TcpView → Type 0
 IsFetcherOf agent limits reach schemes fetcher =
     fetcher ≡ record {
@@ -61,6 +65,7 @@ IsFetcherOf agent limits reach schemes fetcher =
       page_limit = page_limit;
       texts = no_bound;
       closed_for = full_closure;
+      ending = Close;
     }
 
 -- some octets as a response within the limit, for any URL

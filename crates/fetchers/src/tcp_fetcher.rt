@@ -3,6 +3,7 @@
 ghost use Rattle.std.specs.Prelude.{◌≡◌, IfOk, IfSome, None, Some, string_bytes};
 ghost use Rattle.path_normal.specs.declared.schemes.Schemes.TheVariants.{Http};
 ghost use Rattle.http_wire.specs.Response.{Tells};
+ghost use Rattle.http_wire.specs.declared.ending.ConnectionEnding.TheVariants.{KeepAlive};
 ghost use Rattle.http_client.specs.Agent.{IsAgent};
 ghost use Rattle.http_client.specs.TimeLimits.{AreStandard};
 ghost use Rattle.http_client.specs.declared.reach.Reach.TheVariants.{Anywhere};
@@ -14,7 +15,7 @@ use crate::fetcher::{Fetcher, PageLeave, RobotsLeave};
 use crate::text_room::TextRoom;
 use authority_cache::LIFE;
 use http_client::{AddressBlock, Failure, PageRequest, Reach, TcpClient, TimeLimits};
-use http_wire::{ForwardedFields, HttpReply, WireFault};
+use http_wire::{ConnectionEnding, ForwardedFields, HttpReply, WireFault};
 use path_normal::Schemes;
 use robots_text::MAX_TEXT;
 use std::alloc::{AllocError, Global};
@@ -37,7 +38,8 @@ const ROBOTS_LIMIT: usize = MAX_TEXT + 1;
 ///
 /// A clause sees it as that agent (the value of User-Agent), the comment after a crawler's token, its time
 /// limits, its reach, the blocks that it avoids, the schemes of its pages, the most octets of a page's body
-/// and of robots texts, and for how many seconds a network fault keeps a site closed.
+/// and of robots texts, for how many seconds a network fault keeps a site closed, and what becomes of a
+/// connection after a page.
 #[derive(Drop)]
 pub struct TcpFetcher<R: Net<Stream = TcpStream> + time::Clock> {
     client: TcpClient<R>,
@@ -48,6 +50,7 @@ pub struct TcpFetcher<R: Net<Stream = TcpStream> + time::Clock> {
     page_limit: usize,
     texts: TextRoom,
     closed_for: u64,
+    ending: ConnectionEnding,
     meter: FetchMeter,
 }
 
@@ -68,6 +71,7 @@ impl<R: Net<Stream = TcpStream> + time::Clock> Model for TcpFetcher<R> {
       page_limit = fetcher.page_limit;
       texts = fetcher.texts;
       closed_for = fetcher.closed_for;
+      ending = fetcher.ending;
     } };
 
     ghost invariant = { λ fetcher. IsAgent (string_bytes fetcher.agent)
@@ -126,6 +130,7 @@ impl<R: Net<Stream = TcpStream> + time::Clock> TcpFetcher<R> {
             page_limit: PAGE_LIMIT,
             texts: TextRoom::new(),
             closed_for: FULL_CLOSURE,
+            ending: ConnectionEnding::Close,
             meter: FetchMeter::new(),
         })
     }
@@ -195,6 +200,19 @@ impl<R: Net<Stream = TcpStream> + time::Clock> TcpFetcher<R> {
         TcpFetcher { closed_for, ..self }
     }
 
+    /// This fetcher, which keeps a connection open after a page for the next page of the same scheme, host and
+    /// port, if the site lets it. Each robots.txt has a connection of its own.
+    pub fn keeping_alive(self) -> TcpFetcher<R>
+    where
+        R: Drop,
+        ensures { result ≡ record self { ending = KeepAlive } }
+    {
+        TcpFetcher {
+            ending: ConnectionEnding::KeepAlive,
+            ..self
+        }
+    }
+
     /// This fetcher, whose meter begins anew and notes what closed sites.
     pub fn noting_causes(self) -> Result<TcpFetcher<R>, AllocError>
     where
@@ -223,6 +241,7 @@ impl<R: Net<Stream = TcpStream> + time::Clock> TcpFetcher<R> {
                     agent: agent.as_str(),
                     fields: page.fields,
                     limit: page.limit,
+                    ending: page.ending,
                 };
                 self.client.fetch_page(self.alloc, &page, failure)
             }
@@ -291,6 +310,7 @@ impl<R: Net<Stream = TcpStream> + time::Clock> Fetcher for TcpFetcher<R> {
             agent: leave.token().text(),
             fields,
             limit,
+            ending: self.ending,
         };
         let given = self.fetch_under(&page, failure);
         leave.spend();
@@ -316,6 +336,8 @@ impl<R: Net<Stream = TcpStream> + time::Clock> Fetcher for TcpFetcher<R> {
             agent: self.agent.as_str(),
             fields: &fields,
             limit: ROBOTS_LIMIT,
+            // No octet that a page left behind is read as a robots.txt.
+            ending: ConnectionEnding::Close,
         };
         let given = self.client.fetch_by(self.alloc, &page, deadline, failure);
         self.meter.note_robots(&given, *failure);

@@ -6,6 +6,7 @@ pub use Rattle.gate_history.proofs.Following.{followed_count, followed_push, ris
 pub use Rattle.gate_history.proofs.KnownLaws.{lives_bounded}
 pub use Rattle.gate_history.proofs.LegalLaws.{says_base}
 pub use Rattle.gate_history.proofs.Looking.{IsInForce, IsPast, if_false, if_true, in_force_of, past_of}
+pub use Rattle.gate_history.proofs.OneOrder.{Among, among_filter, irreflexive, nat_tie, once, one_order, one_standing, same_text, text_tie}
 pub use Rattle.gate_history.proofs.OrderLaws.{covered_alike, greatest_alike, says_on}
 pub use Rattle.gate_history.proofs.Reordering.{keys_say, reordering_says}
 pub use Rattle.gate_history.proofs.Saying.{says-all, says-length}

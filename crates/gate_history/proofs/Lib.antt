@@ -6,6 +6,8 @@ pub mod SealLaws
 pub mod Saying
 pub mod OrderLaws
 pub mod Reordering
+pub mod OneOrder
+pub mod AnswerOrder
 pub mod LegalLaws
 pub mod LeftOpenLaws
 pub mod EntryCounts

@@ -2,8 +2,8 @@
 -- RFC 9309, sections 2.2.2, 2.3.1 and 2.4.
 pub mod Grants
 pub mod Base
-pub mod Kept
 pub mod Order
+pub mod Kept
 pub mod History
 pub mod Outstanding
 pub mod Standing

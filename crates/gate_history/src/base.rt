@@ -1,11 +1,11 @@
 //! The base of a history: what earlier entries left open, and their numbers.
 //! RFC 9309, sections 2.3.1 and 2.4.
-ghost use Rattle.std.specs.Prelude.{◌≡◌, All};
+ghost use Rattle.std.specs.Prelude.{◌≡◌, All, IsPermutation};
 ghost use Rattle.gate_history.specs.declared.base.Numbers.{Numbers};
 ghost use Rattle.gate_history.specs.Base.{IsBase, empty_base};
 ghost use Rattle.gate_history.specs.Grants.{IsSlotGrant};
 ghost use Rattle.gate_history.specs.Kept.{base_with};
-ghost use Rattle.gate_history.specs.Order.{IsInOrder, Reorders};
+ghost use Rattle.gate_history.specs.Order.{GrantsRise, IsInOrder, PermitsRise, Reorders, TurnsRise};
 
 use authority_cache::{StandingAnswer, Turn};
 use permit_book::GrantedPermit;
@@ -48,6 +48,19 @@ impl LeftOpen {
             .authority
             .text()
             .cmp(other.authority.text()));
+        self.put_numbers_in_order();
+    }
+
+    // Sorts the lists that have numbers. It allocates nothing, and compares no text.
+    fn put_numbers_in_order(&mut self)
+        ensures standing { self.new.standing ≡ self.old.standing }
+        ensures same { (numbers : Numbers)
+            → Reorders (base_with self.old numbers) (base_with self.new numbers) }
+        ensures turns { TurnsRise self.new.in_flight.items }
+        ensures permits { PermitsRise self.new.unspent.items }
+        ensures runs { PermitsRise self.new.running.items }
+        ensures grants { GrantsRise self.new.grants.items }
+    {
         self.in_flight
             .sort_unstable_by_key(|turn| turn.turn.number());
         self.unspent
@@ -72,9 +85,12 @@ pub struct Numbers {
 }
 
 /// Where a history continues, in place of sealed entries: what they left open, in order, and their numbers.
+///
+/// The answers are kept as they were listed. Who spells them puts them in order: to sort as many texts as
+/// there are sites takes too long for a seal, for which others wait.
 #[derive(Drop)]
 pub struct Base {
-    left: LeftOpen,
+    pub(crate) left: LeftOpen,
     numbers: Numbers,
 }
 
@@ -82,15 +98,15 @@ impl Model for Base {
     ghost use Rattle.std.specs.Prelude.{All};
     ghost use Rattle.gate_history.specs.Base.{Base, IsBase};
     ghost use Rattle.gate_history.specs.Grants.{IsSlotGrant};
-    ghost use Rattle.gate_history.specs.Kept.{base_with};
+    ghost use Rattle.gate_history.specs.Kept.{ordered_with};
     ghost use Rattle.gate_history.specs.Order.{IsInOrder};
 
     ghost Value = { Base };
 
-    ghost view = { λ base. base_with base.left base.numbers };
+    ghost view = { λ base. ordered_with base.left base.numbers };
 
-    ghost invariant = { λ base. IsBase (base_with base.left base.numbers)
-        × (IsInOrder (base_with base.left base.numbers) × All IsSlotGrant base.left.grants.items) };
+    ghost invariant = { λ base. IsBase (ordered_with base.left base.numbers)
+        × (IsInOrder (ordered_with base.left base.numbers) × All IsSlotGrant base.left.grants.items) };
 }
 
 impl Base {
@@ -115,7 +131,7 @@ impl Base {
         Base { left, numbers }
     }
 
-    /// The base of what was left open, which it sorts, with these numbers. It allocates nothing.
+    /// The base of what was left open, with these numbers. It allocates nothing and compares no text.
     pub fn of(left: LeftOpen, numbers: Numbers) -> Base
         requires base { IsBase (base_with left numbers) }
         requires grants { All IsSlotGrant left.grants.items }
@@ -123,13 +139,13 @@ impl Base {
         ensures order { IsInOrder result }
     {
         let mut left = left;
-        left.put_in_order();
+        left.put_numbers_in_order();
         Base { left, numbers }
     }
 
-    /// The valid answers.
+    /// The valid answers, in any order: see `answers_in_order`.
     pub fn standing(&self) -> &[StandingAnswer]
-        ensures { result.now ≡ self.now.standing }
+        ensures { IsPermutation result.now self.now.standing }
     {
         self.left.standing.as_slice()
     }

@@ -4,6 +4,7 @@
 
 mod base;
 mod entry;
+mod in_order;
 pub mod laws;
 mod outcome;
 pub mod rows;

@@ -73,7 +73,8 @@ pub fn base_entries_of(sealed: &Result<Segment, NoMemory>) -> Option<u64>
     }
 }
 
-/// Writes the text of the base before what a seal handed out. It takes no memory.
+/// Writes the text of the base before what a seal handed out. It needs no memory, but is faster with some: see
+/// `export`.
 pub fn write_base_of<W: Sink>(
     sealed: &Result<Segment, NoMemory>,
     output: &mut Output,

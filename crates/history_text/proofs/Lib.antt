@@ -1,2 +1,3 @@
 -- Lemmas that several proofs share.
 pub mod Exporting
+pub mod AnswerLines

@@ -10,7 +10,7 @@ use Rattle.history_text.specs.SpellBase.{answer_line, ended, grant_line, numbers
 abbrev pub part_text : BasePart → List ℕ
 part_text (Line line) = ended line.now
 part_text (Numbers base) = ended (numbers_line base.now)
-part_text (Answers answers) = flat_map (λ s. ended (answer_line s)) answers.now
+part_text (Answers base) = flat_map (λ s. ended (answer_line s)) base.now.standing
 part_text (Turns turns) = flat_map (λ t. ended (turn_line t)) turns.now
 part_text (Grants grants) = flat_map (λ g. ended (grant_line g)) grants.now
 part_text (Permits letter permits) = flat_map (λ p. ended (permit_line letter.now p)) permits.now
@@ -19,7 +19,7 @@ part_text (Permits letter permits) = flat_map (λ p. ended (permit_line letter.n
 abbrev pub HasPartFields : BasePart → Type 0
 HasPartFields (Line line) = Unit {0}
 HasPartFields (Numbers base) = HasNumbers base.now
-HasPartFields (Answers answers) = All IsAnswerRow answers.now
+HasPartFields (Answers base) = All IsAnswerRow base.now.standing
 HasPartFields (Turns turns) = All IsTurnRow turns.now
 HasPartFields (Grants grants) = All IsGrantRow grants.now
 HasPartFields (Permits letter permits) = All IsPermitRow permits.now

@@ -8,9 +8,10 @@ ghost use Rattle.history_text.specs.Parts.{HasPartFields, part_text};
 ghost use Rattle.history_text.specs.Spell.{line_end};
 ghost use Rattle.history_text.specs.SpellBase.{base_text, ended, numbers_line};
 
+use crate::answer_lines::push_answers;
 use crate::base_kinds::counts;
 use crate::text_line::TextLine;
-use authority_cache::{StandingAnswer, Turn};
+use authority_cache::Turn;
 use counted_io::{DeviceFault, Output, Sink};
 use gate_history::{Base, Numbers, SlotGrant};
 use line_text::Pieces;
@@ -23,7 +24,8 @@ pub(crate) enum BasePart<'a> {
     Line(&'static str),
     /// The line of a base's numbers.
     Numbers(&'a Base),
-    Answers(&'a [StandingAnswer]),
+    /// The lines of a base's answers, in order.
+    Answers(&'a Base),
     Turns(&'a [Turn]),
     Grants(&'a [SlotGrant]),
     /// Permits, after the letter that says how they are out.
@@ -40,7 +42,7 @@ impl<'a> BasePart<'a> {
         match self {
             BasePart::Line(line) => push_line(Pieces::whole(line), output, sink),
             BasePart::Numbers(base) => push_line(numbers_pieces(base), output, sink),
-            BasePart::Answers(answers) => push_rows("", answers, output, sink),
+            BasePart::Answers(base) => push_answers(base, output, sink),
             BasePart::Turns(turns) => push_rows("", turns, output, sink),
             BasePart::Grants(grants) => push_rows("", grants, output, sink),
             BasePart::Permits(letter, permits) => push_rows(letter, permits, output, sink),
@@ -62,7 +64,7 @@ pub(crate) fn push_base<W: Sink>(
     let parts = [
         BasePart::Line("V 3"),
         BasePart::Numbers(base),
-        BasePart::Answers(base.standing()),
+        BasePart::Answers(base),
         BasePart::Turns(base.in_flight()),
         BasePart::Grants(base.grants()),
         BasePart::Permits("U", base.unspent()),
@@ -118,7 +120,8 @@ pub(crate) fn push_rows<T: TextLine, W: Sink>(
     Ok(())
 }
 
-fn push_line<W: Sink>(
+/// Pushes a line and its end.
+pub(crate) fn push_line<W: Sink>(
     line: Pieces<'_>,
     output: &mut Output,
     sink: &mut W,

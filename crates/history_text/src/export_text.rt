@@ -20,8 +20,8 @@ use gate_core::Book;
 use gate_history::{Base, Entry, Segment};
 
 /// Writes the output's pending octets, and then the present segment of the book: its base, if something was
-/// sealed, and the entries since. Takes no memory. After a fault a prefix of that was written, and nothing
-/// is pending.
+/// sealed, and the entries since. It takes memory to put the base's answers in order; if memory runs out it
+/// takes none, and longer. After a fault a prefix of that was written, and nothing is pending.
 pub fn export<W: Sink>(book: &Book, output: &mut Output, sink: &mut W) -> Result<(), DeviceFault>
     ensures ok { OnOk result (Appends (W.written sink.old) (W.written sink.new)
         (output.old ++ spell_segment (present_segment book.now))) }
@@ -36,8 +36,8 @@ pub fn export<W: Sink>(book: &Book, output: &mut Output, sink: &mut W) -> Result
     output.flush(sink)
 }
 
-/// Like `export`, for a segment: its base, if something was sealed before it, and its entries. Takes no
-/// memory. After a fault a prefix was written, and nothing is pending.
+/// Like `export`, for a segment: its base, if something was sealed before it, and its entries. After a fault
+/// a prefix was written, and nothing is pending.
 pub fn export_segment<W: Sink>(
     segment: &Segment,
     output: &mut Output,
@@ -54,8 +54,8 @@ pub fn export_segment<W: Sink>(
     output.flush(sink)
 }
 
-/// Like `export`, for a base without entries: what the text of a segment after it begins with. Takes no memory.
-/// After a fault a prefix was written, and nothing is pending.
+/// Like `export`, for a base without entries: what the text of a segment after it begins with. After a fault a
+/// prefix was written, and nothing is pending.
 pub fn export_base<W: Sink>(
     base: &Base,
     output: &mut Output,
@@ -71,7 +71,8 @@ pub fn export_base<W: Sink>(
     output.flush(sink)
 }
 
-/// Pushes a segment's text. Takes no memory. What fits stays pending.
+/// Pushes a segment's text, with memory for the order of its base's answers, or longer without. What fits
+/// stays pending.
 pub fn push_segment_text<W: Sink>(
     segment: &Segment,
     output: &mut Output,

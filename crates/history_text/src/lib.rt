@@ -3,6 +3,7 @@
 //! (docs/FORMATS.md). `crawl_audit` reads such texts.
 #![tactic(auto)]
 
+mod answer_lines;
 pub mod base_kinds;
 mod base_parts;
 mod entry_pieces;

@@ -50,6 +50,17 @@ impl TextLine for StandingAnswer {
     }
 }
 
+// An answer of those that were put in order.
+impl TextLine for &StandingAnswer {
+    ghost line = { λ _ answer. answer_line answer.now };
+
+    ghost has_fields = { λ answer. IsAnswerRow answer.now };
+
+    fn pieces(&self, _letter: &'static str) -> Pieces<'_> {
+        standing_pieces("H ", self)
+    }
+}
+
 /// The pieces of an answer in a base, after this word instead of the line's letter and space. They have no
 /// line feed.
 pub fn standing_pieces<'a>(word: &'static str, answer: &'a StandingAnswer) -> Pieces<'a>

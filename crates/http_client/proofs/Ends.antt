@@ -6,6 +6,9 @@ use Rattle.http_wire.specs.Response.{Tells}
 use Rattle.http_wire.specs.declared.fault.WireFault.{WireFault}
 use Rattle.http_wire.specs.declared.fault.WireFault.TheVariants.{EarlyEnd}
 use Rattle.http_wire.specs.declared.response.HttpReply.{HttpReply}
+use Rattle.http_wire.specs.Persistence.{EndsAs}
+use Rattle.http_wire.specs.declared.ending.ConnectionEnding.{ConnectionEnding}
+use Rattle.http_wire.specs.declared.ending.ConnectionEnding.TheVariants.{Close}
 use Rattle.http_client.specs.Cut.{unless_ended}
 use Rattle.http_client.specs.Exchange.{Exchanges}
 use Rattle.http_client.proofs.Exchanges.{device_tells}
@@ -71,7 +74,7 @@ ended_tells limit = record {
   answers = inl (record { heads = []; rest = []; few = omega arith; passed = record { are = λ k d within. absurd (omega (arith, within)); parts = refl }; fact = ends_in_head });
 }
 
-given_tells :
+pub given_tells :
     (request : List ℕ) (limit : ℕ) (written written' left : Option (List ℕ)) (writes writes' reads reads' : ℕ)
     (given : Result HttpReply WireFault)
     → Exchanges request limit written written' writes writes' left reads reads' given → Tells None limit given
@@ -94,3 +97,21 @@ pub through_tells :
 through_tells request limit written written' left writes writes' reads reads' ended given result exchanged same =
     let P : Result HttpReply WireFault → Type 0 = λ r. Tells None limit r in
     subst P (sym same) (unless_ended_tells limit ended given (given_tells request limit written written' left writes writes' reads reads' given exchanged))
+
+-- ---- what becomes of the connection
+
+unless_ended_ends :
+    (left left' : Option (List ℕ)) (limit : ℕ) (ended : Bool) (given : Result HttpReply WireFault) (told ending : ConnectionEnding)
+    → (ended ≡ true → ending ≡ Close) → (ended ≡ false → ending ≡ told) → EndsAs left left' limit given told
+    → EndsAs left left' limit (unless_ended ended given) ending
+unless_ended_ends left left' limit true given told ending closes same ends =
+    subst (EndsAs left left' limit (Err EarlyEnd)) (sym (closes refl)) tt
+unless_ended_ends left left' limit false given told ending closes same ends =
+    subst (EndsAs left left' limit given) (sym (same refl)) ends
+
+pub through_ends :
+    (left left' : Option (List ℕ)) (limit : ℕ) (ended : Bool) (given result : Result HttpReply WireFault) (told ending : ConnectionEnding)
+    → result ≡ unless_ended ended given → (ended ≡ true → ending ≡ Close) → (ended ≡ false → ending ≡ told)
+    → EndsAs left left' limit given told → EndsAs left left' limit result ending
+through_ends left left' limit ended given result told ending is closes same ends =
+    subst (λ r. EndsAs left left' limit r ending) (sym is) (unless_ended_ends left left' limit ended given told ending closes same ends)

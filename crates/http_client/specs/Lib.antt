@@ -6,6 +6,7 @@ pub mod Cut
 pub mod Exchange
 pub mod Reach
 pub mod HostPort
+pub mod Kept
 pub mod Requests
 pub mod TimeLimits
 pub mod TlsHeader

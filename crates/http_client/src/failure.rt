@@ -3,7 +3,7 @@
 ghost use Rattle.std.specs.Prelude.{◌≡◌};
 ghost use Rattle.http_wire.specs.declared.fault.WireFault.TheVariants.{Device};
 
-use http_wire::{HttpReply, WireFault};
+use http_wire::WireFault;
 use std::io::ErrorKind;
 use std::time::Duration;
 
@@ -60,16 +60,4 @@ pub(crate) fn fault_for(why: Failure, failure: &mut Option<Failure>) -> WireFaul
 {
     *failure = Some(why);
     WireFault::Device
-}
-
-/// Why an exchange through the TLS program gave nothing, after this failure or none.
-pub(crate) fn unheard(
-    given: &Result<HttpReply, WireFault>,
-    told: Option<Failure>,
-) -> Option<Failure> {
-    match (given, told) {
-        (Err(WireFault::EarlyEnd), None) => Some(Failure::NoTls),
-        (Err(WireFault::Device), Some(Failure::Reset)) => Some(Failure::NoTls),
-        _ => told,
-    }
 }

@@ -1,13 +1,17 @@
-//! Fetches pages over TCP in bounded time, each over its own connection.
-//! RFC 9110, section 4.2.1; RFC 9112, sections 2 and 3.
+//! Fetches pages over TCP in bounded time, each over its own connection, or over one that an earlier page left open.
+//! RFC 9110, section 4.2.1; RFC 9112, sections 2, 3 and 9.
 #![tactic(auto)]
 
 mod address_block;
+mod connector;
+mod exchanged;
 mod failure;
 mod heard;
 mod host_port;
 mod http_exchange;
+mod kept_connections;
 mod network;
+mod noted;
 mod own_address;
 mod page_request;
 mod reach;

@@ -13,7 +13,7 @@ use path_normal::PageUrl;
 use std::marker::Model;
 use std::net::{IpAddr, Net, SocketAddr, TcpStream, ToSocketAddrs};
 use std::sync::atomic::AtomicBool;
-use std::time::Duration;
+use std::time::{Duration, Instant};
 use std::{array, io, iter, time};
 use stream_waits::Deadline;
 
@@ -102,6 +102,11 @@ impl<R: Net<Stream = TcpStream> + time::Clock> Network<R> {
         ensures { IfOk result (λ deadline. deadline.whole ≡ whole) }
     {
         Deadline::begin(&self.rt, whole)
+    }
+
+    /// This moment.
+    pub(crate) fn now(&self) -> io::Result<Instant> {
+        Instant::now(&self.rt)
     }
 
     /// How long a step with its own limit may take from now on; `TimedOut` if no time is left.

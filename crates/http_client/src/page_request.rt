@@ -1,7 +1,7 @@
 //! What is asked of a site.
 //! RFC 9110, section 9.3.1.
 
-use http_wire::ForwardedFields;
+use http_wire::{ConnectionEnding, ForwardedFields};
 use path_normal::PageUrl;
 
 /// A request for a page, and how much of its response is read.
@@ -15,4 +15,6 @@ pub struct PageRequest<'a, 'f> {
     pub fields: &'f ForwardedFields<'f>,
     /// The most octets of the response's body that are read.
     pub limit: usize,
+    /// Whether the connection may be one that was kept, and is kept after the response.
+    pub ending: ConnectionEnding,
 }

@@ -1,41 +1,45 @@
-//! Pages fetched over TCP, each over a connection of its own.
-ghost use Rattle.std.specs.Prelude.{◌≡◌, [], None, IfOk, false, true};
+//! Pages fetched over TCP, each over a connection of its own or over one that was kept.
+ghost use Rattle.std.specs.Prelude.{◌≡◌, [], None, IfOk, IfSome, false, true};
 ghost use Rattle.std.specs.Net.Socket.{socket_ip};
 ghost use Rattle.path_normal.specs.PageText.{is_https};
 ghost use Rattle.http_wire.specs.Response.{Tells};
+ghost use Rattle.http_wire.specs.declared.ending.ConnectionEnding.TheVariants.{Close};
 ghost use Rattle.http_client.specs.Agent.{IsAgent};
 ghost use Rattle.http_client.specs.Reach.{MayReach};
 ghost use Rattle.http_client.specs.declared.reach.Reach.TheVariants.{Anywhere};
 
 use crate::address_block::AddressBlock;
-use crate::failure::{Failure, fault_for, unheard};
-use crate::heard::{Heard, Nothing};
-use crate::http_exchange::exchange_with_header;
+use crate::connector::Connector;
+use crate::exchanged::{Exchanged, exchange_by_tls, exchange_straight};
+use crate::failure::{Failure, fault_for};
+use crate::kept_connections::KeptConnections;
 use crate::network::{Network, Way};
 use crate::page_request::PageRequest;
 use crate::reach::Reach;
 use crate::time_limits::TimeLimits;
 use crate::timed_stream::TimedStream;
-use crate::tls_exchange::exchange_through;
 use crate::tls_header::{TlsHeaderFault, tls_header_of};
-use counted_io::Counted;
-use http_wire::{ForwardedFields, HttpReply, WireFault};
+use http_wire::{ConnectionEnding, ForwardedFields, HttpReply, WireFault};
 use path_normal::PageUrl;
 use std::alloc::Global;
 use std::marker::Model;
 use std::net::{Net, SocketAddr, TcpStream};
 use std::sync::atomic::{AtomicBool, Ordering};
-use std::time::Duration;
 use std::{io, time};
 use stream_waits::Deadline;
 
-/// Fetches pages over TCP. It keeps no connection, and follows no redirect. Another program does TLS: it
-/// reads a PROXY protocol header, opens TLS to the address there, and forwards octets.
+/// Fetches pages over TCP, and follows no redirect. Another program does TLS: it reads a PROXY protocol header,
+/// opens TLS to the address there, and forwards octets.
+///
+/// A connection is kept after the response to a request whose `ending` is `KeepAlive`, if the response lets it
+/// go on: at most 64 at a time, each for at most 15 seconds, or until the client is next used after these, and
+/// for at most 100 requests. It serves only such requests for pages of the same scheme, host and port.
 #[derive(Drop)]
 pub struct TcpClient<R: Net<Stream = TcpStream> + time::Clock> {
     network: Network<R>,
     limits: TimeLimits,
     stopped: AtomicBool,
+    kept: KeptConnections,
 }
 
 /// A request for a page, and its time.
@@ -93,6 +97,7 @@ impl<R: Net<Stream = TcpStream> + time::Clock> TcpClient<R> {
             network: Network::new(rt, reach, tls_by),
             limits,
             stopped: AtomicBool::new(false),
+            kept: KeptConnections::new(),
         }
     }
 
@@ -107,18 +112,22 @@ impl<R: Net<Stream = TcpStream> + time::Clock> TcpClient<R> {
             network,
             limits,
             stopped,
+            kept: _,
         } = self;
+        // What was kept may be to these addresses.
         TcpClient {
             network: network.avoiding(not_to),
             limits,
             stopped,
+            kept: KeptConnections::new(),
         }
     }
 
     /// Makes all fetches fail: running ones within a second, or the time limit of a connection being made,
-    /// and others before they connect.
+    /// and others before they connect. Closes the connections that are kept.
     pub fn stop(&self) {
         self.stopped.store(true, Ordering::SeqCst);
+        self.kept.close();
     }
 
     /// The time of a whole fetch, from now on. Several fetches may share it.
@@ -137,6 +146,8 @@ impl<R: Net<Stream = TcpStream> + time::Clock> TcpClient<R> {
     /// A page of https is fetched through the TLS program. If that closes the connection before an octet
     /// has come back, the host's next address is tried, so a request may reach several of them (RFC 9110,
     /// section 9.2.2); `EarlyEnd` if the last one ends in this way. `Device` if there is no TLS program.
+    ///
+    /// Over a connection of its own.
     pub fn fetch(
         &self,
         alloc: Global,
@@ -155,11 +166,13 @@ impl<R: Net<Stream = TcpStream> + time::Clock> TcpClient<R> {
             agent,
             fields: &fields,
             limit,
+            ending: ConnectionEnding::Close,
         };
         self.fetch_page(alloc, &page, failure)
     }
 
-    /// `fetch` of such a request.
+    /// `fetch` of such a request. If it may use a connection that was kept, and that one ends before an octet of
+    /// the response has come, the request is sent once more, over a new connection.
     pub fn fetch_page(
         &self,
         alloc: Global,
@@ -187,11 +200,42 @@ impl<R: Net<Stream = TcpStream> + time::Clock> TcpClient<R> {
         ensures { Tells None page.now.limit result }
     {
         let asked = Asked { page, deadline };
+        if let Some(given) = self.fetch_again(alloc, &asked, failure) {
+            return given;
+        }
         if page.url.is_https() {
             self.fetch_by_tls(alloc, &asked, failure)
         } else {
             self.fetch_straight(alloc, &asked, failure)
         }
+    }
+
+    // Fetches a page over a connection that was kept. None if the request wants one of its own, if none is kept,
+    // or if it ended before an octet of the response came.
+    fn fetch_again(
+        &self,
+        alloc: Global,
+        asked: &Asked<'_>,
+        failure: &mut Option<Failure>,
+    ) -> Option<Result<HttpReply, WireFault>>
+        requires { IsAgent asked.now.page.now.agent.now }
+        ensures tells { IfSome result (Tells None asked.now.page.now.limit) }
+        ensures asked { asked.now.page.now.ending ≡ Close → result ≡ None }
+    {
+        if asked.page.ending == ConnectionEnding::Close {
+            return None;
+        }
+        let kept = self.kept.take(asked.page.url, asked.deadline.begun)?;
+        let exchanged = if kept.https {
+            self.exchange_by_tls(alloc, &kept.stream, &[], asked)
+        } else {
+            self.exchange_straight(alloc, &kept.stream, asked)
+        };
+        if exchanged.is_unheard() {
+            return None;
+        }
+        *failure = exchanged.told;
+        Some(self.end(alloc, exchanged, kept.stream, kept.requests, asked.page.url))
     }
 
     // Fetches a page of http from the first address of its server that is within reach and accepts.
@@ -205,15 +249,13 @@ impl<R: Net<Stream = TcpStream> + time::Clock> TcpClient<R> {
         requires agent { IsAgent asked.now.page.now.agent.now }
         ensures { Tells None asked.now.page.now.limit result }
     {
-        let stream = match self.connect(asked.page.url, &asked.deadline) {
+        let stream = match self.connector().connect(asked.page.url, &asked.deadline) {
             Ok(stream) => stream,
             Err(why) => return Err(fault_for(why, failure)),
         };
-        let mut reader = Counted::new(self.timed(&stream, asked.deadline));
-        let mut writer = Counted::new(self.timed(&stream, asked.deadline));
-        let given = exchange_with_header(alloc, &mut reader, &mut writer, &[], asked.page);
-        *failure = writer.into_inner().failure.or(reader.into_inner().failure);
-        given
+        let exchanged = self.exchange_straight(alloc, &stream, asked);
+        *failure = exchanged.told;
+        self.end(alloc, exchanged, stream, 0, asked.page.url)
     }
 
     // Fetches a page of https from the first address of its server that is within reach and sends an octet.
@@ -257,6 +299,7 @@ impl<R: Net<Stream = TcpStream> + time::Clock> TcpClient<R> {
         failure: &mut Option<Failure>,
     ) -> Result<HttpReply, WireFault>
         requires way { MayReach self.now.reach self.now.not_to (socket_ip way.now.address) }
+        requires https { is_https asked.now.page.now.url.now ≡ true }
         requires agent { IsAgent asked.now.page.now.agent.now }
         ensures { Tells None asked.now.page.now.limit result }
     {
@@ -266,83 +309,74 @@ impl<R: Net<Stream = TcpStream> + time::Clock> TcpClient<R> {
             Err(TlsHeaderFault::NoMemory) => return Err(WireFault::NoMemory),
             Err(TlsHeaderFault::LongName) => return Err(fault_for(Failure::NoName, failure)),
         };
-        let stream = match self.connect_program(&asked.deadline) {
+        let stream = match self.connector().connect_program(&asked.deadline) {
             Ok(stream) => stream,
             Err(why) => return Err(fault_for(why, failure)),
         };
-        let mut writer = Counted::new(self.timed(&stream, asked.deadline));
-        let (given, heard): (_, Heard<_, Nothing>) = exchange_through(
-            alloc,
-            self.timed(&stream, asked.deadline),
-            &mut writer,
-            header.as_slice(),
-            asked.page,
-        );
-        let told = writer.into_inner().failure.or(heard.stream.failure);
-        *failure = if heard.any {
-            told
+        let exchanged = self.exchange_by_tls(alloc, &stream, header.as_slice(), asked);
+        *failure = if exchanged.is_unheard() {
+            Some(Failure::NoTls)
         } else {
-            unheard(&given, told)
+            exchanged.told
         };
-        given
+        self.end(alloc, exchanged, stream, 0, asked.page.url)
     }
 
-    // Connects to the first address of the page's server that is within reach and accepts. The address
-    // checked is the one connected to, even if the name changes.
-    fn connect(&self, url: &PageUrl, deadline: &Deadline) -> Result<TcpStream, Failure> {
-        let Ok(addresses) = self.network.addresses_of(url) else {
-            return Err(Failure::NoName);
-        };
-        let mut last = Failure::NoName;
-        for address in addresses {
-            let Some(way) = self.network.way_to(address) else {
-                last = Failure::Unreachable;
-                continue;
-            };
-            match self.connect_to(&way, deadline) {
-                Ok(stream) => return Ok(stream),
-                Err(why) => last = why,
-            }
-        }
-        Err(last)
-    }
-
-    fn connect_to(&self, way: &Way, deadline: &Deadline) -> Result<TcpStream, Failure>
-        requires { MayReach self.now.reach self.now.not_to (socket_ip way.now.address) }
+    // An exchange with the site over this connection to it.
+    fn exchange_straight(&self, alloc: Global, stream: &TcpStream, asked: &Asked<'_>) -> Exchanged
+        requires plain { is_https asked.now.page.now.url.now ≡ false }
+        requires agent { IsAgent asked.now.page.now.agent.now }
+        ensures { Tells None asked.now.page.now.limit result.given }
     {
-        let (most, past) = self.patience(deadline)?;
-        match self.network.connect(way, most) {
-            Ok(stream) => Ok(stream),
-            Err(error) => Err(Failure::of(error.kind(), past)),
-        }
+        let reader = self.timed(stream, asked.deadline);
+        let writer = self.timed(stream, asked.deadline);
+        exchange_straight(alloc, reader, writer, asked.page)
     }
 
-    fn connect_program(&self, deadline: &Deadline) -> Result<TcpStream, Failure> {
-        let (most, past) = self.patience(deadline)?;
-        match self.network.connect_program(most) {
-            Ok(stream) => Ok(stream),
-            Err(error) => match Failure::of(error.kind(), past) {
-                Failure::TooLong(limit) => Err(Failure::TooLong(limit)),
-                _ => Err(Failure::NoTlsProgram),
-            },
-        }
+    // An exchange with the site over this connection to the TLS program, to which the header goes first.
+    fn exchange_by_tls(
+        &self,
+        alloc: Global,
+        stream: &TcpStream,
+        header: &[u8],
+        asked: &Asked<'_>,
+    ) -> Exchanged
+        requires https { is_https asked.now.page.now.url.now ≡ true }
+        requires agent { IsAgent asked.now.page.now.agent.now }
+        ensures { Tells None asked.now.page.now.limit result.given }
+    {
+        let reader = self.timed(stream, asked.deadline);
+        let writer = self.timed(stream, asked.deadline);
+        exchange_by_tls(alloc, reader, writer, header, asked.page)
     }
 
-    // How long a connection may take to be made, and the failure if it takes longer.
-    fn patience(&self, deadline: &Deadline) -> Result<(Duration, Failure), Failure> {
-        if self.stopped.load(Ordering::SeqCst) {
-            return Err(Failure::Stopped);
+    // Ends an exchange with the page's server, after so many others over its connection, which is kept if it
+    // goes on.
+    fn end(
+        &self,
+        alloc: Global,
+        exchanged: Exchanged,
+        stream: TcpStream,
+        before: u32,
+        url: &PageUrl,
+    ) -> Result<HttpReply, WireFault>
+        ensures { result ≡ exchanged.given }
+    {
+        if exchanged.ending == ConnectionEnding::KeepAlive
+            && let Ok(now) = self.network.now()
+        {
+            self.kept
+                .put(alloc, stream, url, before.saturating_add(1), now);
         }
-        let most = self.limits.connect;
-        let Ok(left) = self.network.left(deadline, most) else {
-            return Err(Failure::TooLong(deadline.whole));
-        };
-        let past = if left < most {
-            Failure::TooLong(deadline.whole)
-        } else {
-            Failure::NotConnected(most)
-        };
-        Ok((left, past))
+        exchanged.given
+    }
+
+    fn connector(&self) -> Connector<'_, R> {
+        Connector {
+            network: &self.network,
+            most: self.limits.connect,
+            stopped: &self.stopped,
+        }
     }
 
     fn timed<'a>(

@@ -1,16 +1,20 @@
 -- From the final head and the body to the answer of the whole input.
 -- Used by `read_response`.
-use Rattle.std.proofs.Common.{◌≡◌, ◌≤◌, ◌+◌, ◌-◌, ℕ, List, [], ◌++◌, length, take, drop, Option, Some, None, Ok, Err, sym, ap, subst, ◌∙◌, arith, inr}
-use Rattle.std.specs.Prelude.{IfSome, option_map}
+use Rattle.std.proofs.Common.{◌≡◌, ◌≤◌, ◌+◌, ◌-◌, ℕ, List, [], ◌++◌, length, take, drop, Option, Some, None, Ok, Err, refl, sym, ap, subst, ◌∙◌, arith, append_assoc, inr}
+use Rattle.std.specs.Prelude.{IfSome, IsTrue, option_map}
+use Rattle.std.specs.Io.KnownBytes.{Consumes}
 use Rattle.std.specs.String.{string_bytes}
 use Rattle.std.proofs.lemmas.List.{drop-append-le}
 use Rattle.std.proofs.Math.Seq.{take-append-add}
 use Rattle.http_wire.specs.Bodies.{InBody}
 use Rattle.http_wire.specs.Finding.{IsFound}
 use Rattle.http_wire.specs.Heads.{HasFinal}
-use Rattle.http_wire.specs.Reading.{Grows, IsWhole, HasNoBody, ReadsBody}
+use Rattle.http_wire.specs.Persistence.{EndsAs, GoesOn, MayGoOn}
+use Rattle.http_wire.specs.Reading.{EndsWith, Grows, IsWhole, HasNoBody, ReadsBody}
 use Rattle.http_wire.specs.Response.{Response, Tells, Cause, reply_of}
 use Rattle.http_wire.specs.declared.body.Body.{Body}
+use Rattle.http_wire.specs.declared.ending.ConnectionEnding.{ConnectionEnding}
+use Rattle.http_wire.specs.declared.ending.ConnectionEnding.TheVariants.{Close, KeepAlive}
 use Rattle.http_wire.specs.declared.fault.WireFault.{WireFault}
 use Rattle.http_wire.specs.declared.fault.WireFault.TheVariants.{EarlyEnd, BadHead, HeadTooLong, TooManyInterim, BadLength, BadChunk, Coding, Device, NoMemory, TooMuch}
 use Rattle.http_wire.specs.declared.framing.Framing.{Framing}
@@ -61,6 +65,47 @@ reply_told left left' seen found limit body reply grows is reads same = record {
     within = reads.tells.within;
   });
 }
+
+consumes_both : (left mid left' : Option (List ℕ)) (first second : List ℕ) → Consumes left mid first → Consumes mid left' second → Consumes left left' (first ++ second)
+consumes_both None mid left' first second one two = tt
+consumes_both (Some xs) None left' first second one two = absurd one
+consumes_both (Some xs) (Some ys) None first second one two = absurd two
+consumes_both (Some xs) (Some ys) (Some zs) first second one two = one ∙ ap (λ t. first ++ t) two ∙ sym (append_assoc first second zs)
+
+pub goes_on : (left mid left' : Option (List ℕ)) (seen : List ℕ) (found : FinalHead) (limit : ℕ) (body : Body) (reply : HttpReply)
+    → Grows left mid [] seen → IsFound seen found → EndsWith found.framing limit found.end mid left' seen body → MayGoOn found body
+    → reply_of reply ≡ record { status = found.status; location = option_map string_bytes found.location; max_age = found.max_age; head = found.octets.items; body = body.octets.items; cut = body.cut }
+    → GoesOn left left' limit (reply_of reply)
+goes_on left mid left' seen found limit body reply grows is ends may same = subst (GoesOn left left' limit) (sym same) (record {
+  octets = ends.seen;
+  taken = subst (Consumes left left') (ap (λ t. t ++ ends.grows.piece) (sym grows.grown) ∙ sym ends.grows.grown)
+      (consumes_both left mid left' grows.piece ends.grows.piece grows.read ends.grows.read);
+  gives = record {
+    head = is.head;
+    text = drop found.end ends.seen;
+    final = final_of seen ends.seen ends.grows.piece found is ends.grows.grown;
+    framing = found.framing;
+    framed = is.framed;
+    uncoded = is.uncoded;
+    gives = ends.gives;
+    status = is.status;
+    location = is.location;
+    max_age = is.max_age;
+    octets = is.octets;
+  };
+  delimited = may.delimited;
+  whole = may.whole;
+  persists = sym is.persists ∙ may.persists;
+})
+
+pub ends_as : (left mid left' : Option (List ℕ)) (seen : List ℕ) (found : FinalHead) (limit : ℕ) (body : Body) (reply : HttpReply) (ending : ConnectionEnding)
+    → Grows left mid [] seen → IsFound seen found → (IsTrue body.alone → EndsWith found.framing limit found.end mid left' seen body)
+    → (ending ≡ KeepAlive → MayGoOn found body)
+    → reply_of reply ≡ record { status = found.status; location = option_map string_bytes found.location; max_age = found.max_age; head = found.octets.items; body = body.octets.items; cut = body.cut }
+    → EndsAs left left' limit (Ok reply) ending
+ends_as left mid left' seen found limit body reply Close grows is ends may same = tt
+ends_as left mid left' seen found limit body reply KeepAlive grows is ends may same =
+    goes_on left mid left' seen found limit body reply grows is (ends (may refl).alone) (may refl) same
 
 in_body : {Fact : Framing → List ℕ → Type 0} (seen input more : List ℕ) (found : FinalHead) → IsFound seen found → input ≡ seen ++ more
     → Fact found.framing (drop found.end input) → InBody Fact input

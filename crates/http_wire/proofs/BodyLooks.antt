@@ -2,7 +2,9 @@
 -- Used by `BodyDecoder` and `read_body`.
 use Rattle.std.proofs.Common.{◌≡◌, ℕ, suc, ◌<◌, ◌≤◌, Bool, true, false, List, [], ◌∷◌, ◌++◌, length, take, drop, get_or, refl, sym, ap, subst, ◌∙◌, arith, append-nil, length-append, take-append-drop, inl, inr}
 use Rattle.std.proofs.Math.Seq.{drop-cons}
-use Rattle.std.proofs.lemmas.List.{drop-append-le, take-append-le, take_all, length-take-le}
+use Rattle.std.proofs.lemmas.Bool.{false≢true}
+use Rattle.std.proofs.lemmas.List.{drop-append-le, drop_all, take-append-le, take_all, length-take-le}
+use Rattle.std.specs.Prelude.{IsTrue}
 use Rattle.httparse.proofs.PieceLemmas.{front-append}
 use Rattle.http_wire.specs.declared.body.Body.{Body}
 use Rattle.http_wire.specs.declared.body_decoder.BodySeen.{BodySeen}
@@ -24,12 +26,13 @@ prefix_parts : (limit : ℕ) (text : List ℕ) → limit < length text → text 
 prefix_parts limit text past =
     sym (take-append-drop limit text) ∙ ap (λ t. take limit text ++ t) (drop-cons text limit 0 past)
 
-pub prefix_seen : (limit : ℕ) (text : List ℕ) (seen : BodySeen) → limit < length text → IsGiven (take limit text) true seen → SeesPrefix limit text seen
+pub prefix_seen : (limit : ℕ) (text : List ℕ) (seen : BodySeen) → limit < length text → IsGiven (take limit text) true false seen → SeesPrefix limit text seen
 prefix_seen limit text (Given body) past given =
     let next = get_or text limit 0 ∷ drop (suc limit) text in
     let parts : text ≡ body.octets.items ++ next = prefix_parts limit text past ∙ ap (λ t. t ++ next) (sym given.0) in
     record {
       cut = given.1;
+      alone = given.2;
       rest = drop (suc limit) text;
       first = λ more. record {
         last = get_or text limit 0;
@@ -45,13 +48,14 @@ pub counted_cut : (size limit : ℕ) (text : List ℕ) (seen : BodySeen) → lim
 counted_cut size limit text (Given body) past prefix last = record {
   rest = prefix.rest;
   gives = λ more. subst (λ cut. GivesCounted size limit (text ++ more) body.octets.items cut (prefix.rest ++ more)) (sym prefix.cut) (past, prefix.first more);
+  alone = λ is. absurd (false≢true (sym prefix.alone ∙ is));
 }
 counted_cut size limit text Full past prefix last = absurd prefix
 counted_cut size limit text More past few last = λ _. (omega arith, few)
 
-pub counted_seen : (size limit : ℕ) (text : List ℕ) (seen : BodySeen) → size ≤ limit → size ≤ length text → IsGiven (take size text) false seen
-    → (last : Bool) → SeesBody (Counted size) limit text last seen
-counted_seen size limit text (Given body) fits stand given last =
+pub counted_seen : (size limit : ℕ) (text : List ℕ) (alone : Bool) (seen : BodySeen) → size ≤ limit → size ≤ length text → (IsTrue alone → length text ≡ size)
+    → IsGiven (take size text) false alone seen → (last : Bool) → SeesBody (Counted size) limit text last seen
+counted_seen size limit text alone (Given body) fits stand whole given last =
     let parts : text ≡ body.octets.items ++ drop size text = sym (take-append-drop size text) ∙ ap (λ t. t ++ drop size text) (sym given.0) in
     let size_is : length body.octets.items ≡ size = ap length given.0 ∙ length-take-le size text stand in
     record {
@@ -59,9 +63,10 @@ counted_seen size limit text (Given body) fits stand given last =
       gives = λ more.
           subst (λ cut. GivesCounted size limit (text ++ more) body.octets.items cut (drop size text ++ more)) (sym given.1)
           (fits, size_is, front-append text body.octets.items (drop size text) more parts);
+      alone = λ is. drop_all size text (omega (arith, whole (sym given.2 ∙ is)));
     }
-counted_seen size limit text Full fits stand given last = absurd given
-counted_seen size limit text More fits stand given last = absurd given
+counted_seen size limit text alone Full fits stand whole given last = absurd given
+counted_seen size limit text alone More fits stand whole given last = absurd given
 
 pub bad_chunks : (limit start limit' start' : ℕ) (bytes : List ℕ) → limit' ≡ limit → start' ≡ start → IsBadChunked limit' (drop start' bytes)
     → Refuses Chunked limit (drop start bytes) BadChunk
@@ -82,6 +87,16 @@ given_past framing limit start bytes more body within few given = record {
   rest = given.rest ++ more;
   gives = subst (λ t. Gives framing limit t body.octets.items body.cut (given.rest ++ more)) (drop_more start bytes more within) (given.gives more);
   within = omega (arith, few, length-append bytes more, length-append given.rest more);
+}
+
+-- the same body, whether it is alone or not
+pub same_body : (framing : Framing) (limit start : ℕ) (input : List ℕ) (body body' : Body) → body'.octets ≡ body.octets → body'.cut ≡ body.cut
+    → HasBody framing limit start input body → HasBody framing limit start input body'
+same_body framing limit start input body body' octets cut has = record {
+  rest = has.rest;
+  gives = subst (λ c. Gives framing limit (drop start input) body'.octets.items c has.rest) (sym cut)
+      (subst (λ o. Gives framing limit (drop start input) o.items body.cut has.rest) (sym octets) has.gives);
+  within = has.within;
 }
 
 pub refused_past : (framing : Framing) (limit start : ℕ) (bytes more : List ℕ) (fault : WireFault) → start ≤ length bytes

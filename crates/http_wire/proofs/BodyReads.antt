@@ -1,6 +1,9 @@
 -- What the reading of a body tells at each of its ends.
 -- Used by `read_body`.
-use Rattle.std.proofs.Common.{◌⊎◌, inl, inr, ◌≡◌, ℕ, ◌<◌, ◌≤◌, List, ◌++◌, length, drop, sym, subst, Option, Result, Ok, Err}
+use Rattle.std.proofs.Common.{◌⊎◌, inl, inr, ◌≡◌, ◌∙◌, ℕ, ◌<◌, ◌≤◌, Bool, false, List, [], ◌++◌, length, drop, append-nil, sym, subst, Option, Result, Ok, Err}
+use Rattle.std.proofs.lemmas.Bool.{false≢true}
+use Rattle.std.specs.Prelude.{IsTrue}
+use Rattle.http_wire.specs.Bodies.{Gives}
 use Rattle.http_wire.specs.declared.body.Body.{Body}
 use Rattle.http_wire.specs.declared.body_decoder.BodyDecoder.{BodyDecoder}
 use Rattle.http_wire.specs.declared.fault.WireFault.{WireFault}
@@ -8,7 +11,7 @@ use Rattle.http_wire.specs.declared.fault.WireFault.TheVariants.{Device, NoMemor
 use Rattle.http_wire.specs.declared.framing.Framing.{Framing}
 use Rattle.http_wire.specs.Limits.{raw_limit}
 use Rattle.http_wire.specs.Parts.{Breaks, EndsWaiting, GoesOnWaiting, IsFoundIn}
-use Rattle.http_wire.specs.Reading.{Grows, IsWhole, HasNoBody, TellsBody, ReadsBody}
+use Rattle.http_wire.specs.Reading.{EndsWith, Grows, IsWhole, HasNoBody, TellsBody, ReadsBody}
 use Rattle.http_wire.specs.Seeing.{GivesBody, Refuses, framing_in}
 use Rattle.http_wire.proofs.BodyLooks.{given_past, refused_past}
 use Rattle.http_wire.proofs.SourceReads.{ahead, whole_now, whole_before, whole_ended, whole_past}
@@ -50,6 +53,29 @@ found_read framing limit start left left' old new most decoder body is most_is f
     subst (λ n. length found.seen ≤ raw_limit n) (sym is.limit_is) (subst (λ n. length found.seen ≤ n) most_is found.few) in
     reads_for framing limit start left left' old found.seen (found.seen ++ ahead left') decoder (Ok body) is found.grows (whole_now left' found.seen)
     (given_past (framing_in decoder) decoder.limit decoder.start found.seen (ahead left') body found.given.0 few found.given.1)
+
+seen_alone : (framing : Framing) (limit start : ℕ) (decoder : BodyDecoder) (seen : List ℕ) (body : Body) → IsFor framing limit start decoder
+    → GivesBody (framing_in decoder) decoder.limit (drop decoder.start seen) body → IsTrue body.alone → Gives framing limit (drop start seen) body.octets.items body.cut []
+seen_alone framing limit start decoder seen body is given alone =
+    let text = drop decoder.start seen in
+    let own : Gives (framing_in decoder) decoder.limit text body.octets.items body.cut [] =
+    subst (λ rest. Gives (framing_in decoder) decoder.limit text body.octets.items body.cut rest) (append-nil given.rest ∙ given.alone alone)
+    (subst (λ t. Gives (framing_in decoder) decoder.limit t body.octets.items body.cut (given.rest ++ [])) (append-nil text) (given.gives [])) in
+    subst (λ f. Gives f limit (drop start seen) body.octets.items body.cut []) is.framing_is
+    (subst (λ n. Gives (framing_in decoder) n (drop start seen) body.octets.items body.cut []) is.limit_is
+    (subst (λ s. Gives (framing_in decoder) decoder.limit (drop s seen) body.octets.items body.cut []) is.start_is own))
+
+pub found_alone : (framing : Framing) (limit start : ℕ) (left left' : Option (List ℕ)) (old new : List ℕ) (most : ℕ) (decoder : BodyDecoder) (body : Body)
+    → IsFor framing limit start decoder → IsFoundIn most (λ seen _ body. GivesThere decoder seen body) left left' old new body
+    → IsTrue body.alone → EndsWith framing limit start left left' old body
+found_alone framing limit start left left' old new most decoder body is found alone = record {
+  seen = found.seen;
+  grows = found.grows;
+  gives = seen_alone framing limit start decoder found.seen body is found.given.1 alone;
+}
+
+pub ended_alone : {T : Type 0} (alone : Bool) → alone ≡ false → IsTrue alone → T
+ended_alone alone ended is = absurd (false≢true (sym ended ∙ is))
 
 pub ended_read : (framing : Framing) (limit start : ℕ) (left left' : Option (List ℕ)) (old new : List ℕ) (most : ℕ) (waits : List ℕ → Type 0) (decoder : BodyDecoder) (result : Result Body WireFault)
     → IsFor framing limit start decoder → EndsWaiting most waits left left' old new

@@ -77,8 +77,8 @@ text_behind P bytes at size p =
 
 pub end_decodes : (decoder : ChunkDecoder) (bytes : List ℕ) (last : Bool) (look : PartSeen) → Stands decoder bytes → decoder.place ≡ places.Trailers
     → TrailersTell (drop decoder.at bytes) last look → Decodes bytes last decoder look
-end_decodes decoder bytes last Whole s is tells =
-    (tells.0, trailers_whole _ _ _ _ tells.0 (at_place decoder bytes places.Trailers s is) tells.1)
+end_decodes decoder bytes last (Whole behind) s is (rest, reads, len) =
+    (rest, trailers_whole _ _ _ _ rest (at_place decoder bytes places.Trailers s is) reads, len)
 end_decodes decoder bytes last Cut s is tells = absurd tells
 end_decodes decoder bytes last Bad s is tells =
     trailers_bad _ _ _ _ (at_place decoder bytes places.Trailers s is) tells

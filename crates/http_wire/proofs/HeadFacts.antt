@@ -209,13 +209,15 @@ head_octets text headers spans head found =
 pub planned : (finder : HeadFinder) (bytes : List ℕ) (headers : List HeaderSpan) (spans : ResponseSpans) (head : ResponseHead)
     (plan : FinalHead) → Passes finder bytes → IsHeadAt (take max_head (drop finder.at bytes)) headers spans head
     → IsTrue (is_final spans.code)
-    → IsPlan spans.code (map (header_bytes (take max_head (drop finder.at bytes))) (take spans.headers headers))
+    → IsPlan spans.code spans.version (map (header_bytes (take max_head (drop finder.at bytes))) (take spans.headers headers))
     (take spans.len (take max_head (drop finder.at bytes))) (finder.at + spans.len) plan
     → IsFound bytes plan
 planned finder bytes headers spans head plan passes found final is =
     let prefix = take max_head (drop finder.at bytes) in
-    let own : IsPlan (status_code head) (head_fields head) (take spans.len prefix) (finder.at + spans.len) plan =
-    told (λ code fields. IsPlan code fields (take spans.len prefix) (finder.at + spans.len) plan) prefix headers spans head found is in
+    let fields = map (header_bytes prefix) (take spans.headers headers) in
+    let own : IsPlan (status_code head) head.minor (head_fields head) (take spans.len prefix) (finder.at + spans.len) plan =
+    told (λ code fields. IsPlan code head.minor fields (take spans.len prefix) (finder.at + spans.len) plan) prefix headers spans head found
+    (subst (λ minor. IsPlan spans.code minor fields (take spans.len prefix) (finder.at + spans.len) plan) found.at.version is) in
     let len = length-take max_head (drop finder.at bytes) in
     record {
       head = head;
@@ -226,6 +228,7 @@ planned finder bytes headers spans head plan passes found final is =
       status = own.status;
       location = own.location;
       max_age = own.max_age;
+      persists = own.persists;
       octets = own.octets ∙ head_octets prefix headers spans head found;
     }
 

@@ -10,7 +10,8 @@ use Rattle.std.proofs.lemmas.Grind.{flat_map-append}
 use Rattle.std.proofs.lemmas.List.{take_min, take-append-le}
 use Rattle.httparse.specs.Ascii.{crlf_bytes}
 use Rattle.counted_io.specs.Device.{AppendsPrefix}
-use Rattle.http_wire.specs.Request.{joined_pieces, request_with, request_line, field_line, field_line_if, line_after}
+use Rattle.http_wire.specs.Request.{closing_value, joined_pieces, request_with, request_line, field_line, field_line_if, line_after}
+use Rattle.http_wire.specs.declared.ending.ConnectionEnding.{ConnectionEnding}
 use Rattle.http_wire.specs.declared.forwarded_fields.ForwardedFields.{ForwardedFields}
 use Rattle.http_wire.specs.declared.request.FieldLine.{FieldLine}
 
@@ -62,21 +63,20 @@ line_is : (name begin : List ℕ) (value : Option (List ℕ)) → begin ≡ name
 line_is name begin None is = refl
 line_is name begin (Some value) is = ap (λ s. s ++ (value ++ crlf_bytes)) is ∙ append_assoc name (codes ": ") (value ++ crlf_bytes)
 
-abbrev last_line : List ℕ
-last_line = field_line (codes "Connection") (codes "close") ++ crlf_bytes
-
-pub request_with_joined : (fields : ForwardedFields) (target authority agent t a g : List ℕ) (tags since types languages : FieldLine)
+pub request_with_joined : (ending : ConnectionEnding) (fields : ForwardedFields) (target authority agent t a g : List ℕ) (tags since types languages closing : FieldLine)
     → t ≡ target → a ≡ authority → g ≡ agent
     → IsLine tags (line_after (codes "If-None-Match: ") fields.if_none_match)
     → IsLine since (line_after (codes "If-Modified-Since: ") fields.if_modified_since)
     → IsLine types (line_after (codes "Accept: ") fields.accept)
     → IsLine languages (line_after (codes "Accept-Language: ") fields.accept_language)
+    → IsLine closing (line_after (codes "Connection: ") (closing_value ending))
     → codes "GET " ++ (t ++ (before_authority ++ (a ++ (before_agent ++ (g ++ after_agent
-    (pieces_of tags (pieces_of since (pieces_of types (pieces_of languages (last_line ++ []))))))))))
-    ≡ request_with fields target authority agent
-request_with_joined fields target authority agent t a g tags since types languages is_target is_authority is_agent is_tags is_since is_types is_languages =
-    let end : pieces_of languages (last_line ++ []) ≡ field_line_if (codes "Accept-Language") fields.accept_language ++ last_line =
-    line_joined languages _ (last_line ++ []) last_line (is_languages ∙ line_is (codes "Accept-Language") _ fields.accept_language refl) refl in
+    (pieces_of tags (pieces_of since (pieces_of types (pieces_of languages (pieces_of closing (crlf_bytes ++ [])))))))))))
+    ≡ request_with ending fields target authority agent
+request_with_joined ending fields target authority agent t a g tags since types languages closing is_target is_authority is_agent is_tags is_since is_types is_languages is_closing =
+    let from_closing : pieces_of closing (crlf_bytes ++ []) ≡ field_line_if (codes "Connection") (closing_value ending) ++ crlf_bytes =
+    line_joined closing _ (crlf_bytes ++ []) crlf_bytes (is_closing ∙ line_is (codes "Connection") _ (closing_value ending) refl) refl in
+    let end = line_joined languages _ _ _ (is_languages ∙ line_is (codes "Accept-Language") _ fields.accept_language refl) from_closing in
     let from_types = line_joined types _ _ _ (is_types ∙ line_is (codes "Accept") _ fields.accept refl) end in
     let from_since = line_joined since _ _ _ (is_since ∙ line_is (codes "If-Modified-Since") _ fields.if_modified_since refl) from_types in
     let from_tags = line_joined tags _ _ _ (is_tags ∙ line_is (codes "If-None-Match") _ fields.if_none_match refl) from_since in

@@ -1,6 +1,6 @@
 -- What as many octets as trailers may have tell of the text.
 -- Used by `look_full`.
-use Rattle.std.proofs.Common.{◌≢◌, ℕ, ◌<◌, ◌≤◌, List, [], ◌++◌, length, take, drop, sym, refl, subst, append-nil, take-append-drop}
+use Rattle.std.proofs.Common.{◌≡◌, ◌≢◌, ◌⊎◌, inl, inr, ℕ, ◌<◌, ◌≤◌, List, [], ◌++◌, length, take, drop, sym, refl, subst, append-nil, take-append-drop}
 use Rattle.httparse.specs.Grammar.{ReadsSection, NeverHasSection, LineEnd, Field}
 use Rattle.httparse.specs.Spans.{SectionOverflows}
 use Rattle.httparse.proofs.GrammarLemmas.{ReadsSection-append}
@@ -26,12 +26,21 @@ over_now : (room : ℕ) (text : List ℕ) → SectionOverflows room text → (fi
 over_now room text over fields last rest reads =
     over [] fields last rest (subst (λ s. ReadsSection s fields last rest) (sym (append-nil text)) reads)
 
-pub prefix_bad : (text : List ℕ) (section : TrailerSection) → max_trailer_bytes ≤ length text
-    → SectionTells (take max_trailer_bytes text) section → section ≢ sections.Whole → IsTooLong text
-prefix_bad text sections.Whole long tells other = absurd (other refl)
-prefix_bad text sections.Open long tells other =
+bad_section : (text : List ℕ) (section : TrailerSection) → max_trailer_bytes ≤ length text
+    → SectionTells (take max_trailer_bytes text) section → ((len : ℕ) → section ≢ sections.Whole len) → IsTooLong text
+bad_section text (sections.Whole len) long tells other = absurd (other len refl)
+bad_section text sections.Open long tells other =
     record { long = long; none = λ fields last rest reads. absurd (tells.0 fields last rest reads) }
-prefix_bad text sections.Over long tells other =
+bad_section text sections.Over long tells other =
     record { long = long; none = over_now max_trailers (take max_trailer_bytes text) tells.0 }
-prefix_bad text sections.Bad long tells other =
+bad_section text sections.Bad long tells other =
     record { long = long; none = over_now max_trailers (take max_trailer_bytes text) (never_over max_trailers (take max_trailer_bytes text) tells) }
+
+not_whole : (section : TrailerSection) → (section ≡ sections.Open) ⊎ ((section ≡ sections.Over) ⊎ (section ≡ sections.Bad)) → (len : ℕ) → section ≢ sections.Whole len
+not_whole section (inl open') len whole = cc
+not_whole section (inr (inl over)) len whole = cc
+not_whole section (inr (inr bad)) len whole = cc
+
+pub prefix_bad : (text : List ℕ) (section : TrailerSection) → max_trailer_bytes ≤ length text
+    → SectionTells (take max_trailer_bytes text) section → (section ≡ sections.Open) ⊎ ((section ≡ sections.Over) ⊎ (section ≡ sections.Bad)) → IsTooLong text
+prefix_bad text section long tells other = bad_section text section long tells (not_whole section other)

@@ -31,14 +31,14 @@ pub record StandsWhole (size : ℕ) (text : List ℕ) : Type 0 where
 
 -- what octets of trailers are
 abbrev pub SectionTells : List ℕ → TrailerSection → Type 0
-SectionTells text sections.Whole = (rest : List ℕ) × ReadsTrailers text rest
+SectionTells text (sections.Whole len) = (len ≤ length text) × ReadsTrailers text (drop len text)
 SectionTells text sections.Open = HasNoSection text × MayBecomeSection text
 SectionTells text sections.Over = SectionOverflows max_trailers text × SectionExceeds max_trailers text
 SectionTells text sections.Bad = NeverHasSection text
 
 -- what follows the last chunk's line
 abbrev pub TrailersTell : List ℕ → Bool → PartSeen → Type 0
-TrailersTell text last Whole = (rest : List ℕ) × ReadsTrailers text rest
+TrailersTell text last (Whole behind) = (rest : List ℕ) × ReadsTrailers text rest × (length rest ≡ behind)
 TrailersTell text last Cut = ⊥
 TrailersTell text last Bad = SectionOverflows max_trailers text ⊎ IsTooLong text
 TrailersTell text last Full = IsTrue last × HasTooManyLines text
@@ -76,8 +76,9 @@ pub record KeepsBounds (old new : ChunkDecoder) : Type 0 where
 
 -- the result of a look from the decoder's start on, with the octets collected
 abbrev pub Decodes : List ℕ → Bool → ChunkDecoder → PartSeen → Type 0
-Decodes bytes last decoder Whole =
+Decodes bytes last decoder (Whole behind) =
     (rest : List ℕ) × GivesChunked decoder.limit (drop decoder.start bytes) decoder.octets.items false rest
+    × (length rest ≡ behind)
 Decodes bytes last decoder Cut =
     (rest : List ℕ) × GivesChunked decoder.limit (drop decoder.start bytes) decoder.octets.items true rest
 Decodes bytes last decoder Bad = IsBadChunked decoder.limit (drop decoder.start bytes)

@@ -8,6 +8,7 @@ use Rattle.httparse.specs.declared.spans.HeaderSpan.{HeaderSpan}
 use Rattle.httparse.specs.declared.spans.ResponseSpans.{ResponseSpans}
 use Rattle.http_wire.specs.Fields.{Pair, framing_of, is_coded, IsLocation}
 use Rattle.http_wire.specs.Freshness.{HasMaxAge}
+use Rattle.http_wire.specs.Options.{persists}
 use Rattle.http_wire.specs.Heads.{HasFinal, HasInterims, IsHead, head_fields, is_interim, is_final}
 use Rattle.http_wire.specs.Reading.{IsWhole}
 use Rattle.http_wire.specs.Response.{Cause}
@@ -74,6 +75,7 @@ pub record IsFound (bytes : List ℕ) (found : FinalHead) : Type 0 where
   pub status : found.status ≡ status_code head
   pub location : IsLocation (head_fields head) (option_map string_bytes found.location)
   pub max_age : HasMaxAge (head_fields head) found.max_age
+  pub persists : found.persists ≡ persists head.minor (head_fields head)
   pub octets : found.octets.items ≡ print_response head
 
 -- the fault's cause, whatever follows and whatever the limit
@@ -101,13 +103,14 @@ pub record Fails (left : Option (List ℕ)) (seen : List ℕ) (fault : WireFault
   pub whole : IsWhole left seen input
   pub cause : (limit : ℕ) → Cause fault input limit
 
--- the plan by this status, these fields and the text of their head
-pub record IsPlan (code : ℕ) (fields : List Pair) (text : List ℕ) (end : ℕ) (found : FinalHead) : Type 0 where
+-- the plan by this status, this minor version, these fields and the text of their head
+pub record IsPlan (code minor : ℕ) (fields : List Pair) (text : List ℕ) (end : ℕ) (found : FinalHead) : Type 0 where
   pub framed : framing_of code fields ≡ Ok found.framing
   pub uncoded : is_coded code fields ≡ false
   pub status : found.status ≡ code
   pub location : IsLocation fields (option_map string_bytes found.location)
   pub max_age : HasMaxAge fields found.max_age
+  pub persists : found.persists ≡ persists minor fields
   pub octets : found.octets.items ≡ text
   pub end_is : found.end ≡ end
 

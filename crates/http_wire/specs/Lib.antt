@@ -12,7 +12,9 @@ pub mod Kept
 pub mod Left
 pub mod Limits
 pub mod Messages
+pub mod Options
 pub mod Parts
+pub mod Persistence
 pub mod Reading
 pub mod Request
 pub mod Response

@@ -1,6 +1,6 @@
 -- What reads of a source leave, and what the reader's parts answer for the whole input.
 -- Cited by their contracts.
-use Rattle.std.specs.Prelude.{◌≡◌, ℕ, ◌+◌, ◌-◌, ◌<◌, ◌≤◌, List, ◌++◌, length, drop, take, Option, None, Some, IfSome, Result, Ok, Err, ⊤}
+use Rattle.std.specs.Prelude.{◌≡◌, ℕ, ◌+◌, ◌-◌, ◌<◌, ◌≤◌, List, [], ◌++◌, length, drop, take, Option, None, Some, IfSome, Result, Ok, Err, ⊤}
 use Rattle.std.specs.Io.KnownBytes.{Consumes, IsAtEnd}
 use Rattle.http_wire.specs.Bodies.{Gives, EndsInBody, IsBodyPrefix, IsBadBody}
 use Rattle.http_wire.specs.declared.body.Body.{Body}
@@ -63,6 +63,13 @@ HasNoBody Coding framing limit start input = ⊥
 HasNoBody Device framing limit start input = ⊤
 HasNoBody NoMemory framing limit start input = ⊤
 HasNoBody TooMuch framing limit start input = GoesOn framing limit start input
+
+-- all that was seen of the source ends with the body from a place on
+pub record EndsWith (framing : Framing) (limit start : ℕ) (left left' : Option (List ℕ)) (old : List ℕ) (body : Body)
+    : Type 0 where
+  pub seen : List ℕ
+  pub grows : Grows left left' old seen
+  pub gives : Gives framing limit (drop start seen) body.octets.items body.cut []
 
 -- the answer for the input's body from a place on
 abbrev pub TellsBody : Framing → ℕ → ℕ → List ℕ → Result Body WireFault → Type 0

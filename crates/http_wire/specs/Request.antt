@@ -1,9 +1,11 @@
 -- The request for a page.
--- RFC 9112, sections 3, 5 and 9.6; RFC 9110, sections 7.2, 10.1.5, 12.5.1, 12.5.3, 12.5.4, 13.1.2 and 13.1.3.
+-- RFC 9112, sections 3, 5, 9.3 and 9.6; RFC 9110, sections 7.2, 10.1.5, 12.5.1, 12.5.3, 12.5.4, 13.1.2 and 13.1.3.
 use Rattle.std.specs.Prelude.{ℕ, List, [], ◌++◌, codes, Option, None, Some}
 use Rattle.std.specs.List.{flat_map}
 use Rattle.std.specs.Borrow.{Bor}
 use Rattle.httparse.specs.Ascii.{crlf_bytes}
+use Rattle.http_wire.specs.declared.ending.ConnectionEnding.{ConnectionEnding}
+use Rattle.http_wire.specs.declared.ending.ConnectionEnding.TheVariants.{Close, KeepAlive}
 use Rattle.http_wire.specs.declared.forwarded_fields.ForwardedFields.{ForwardedFields}
 
 -- request-line = method SP request-target SP HTTP-version CRLF
@@ -38,9 +40,14 @@ abbrev pub field_line_if : List ℕ → Option (List ℕ) → List ℕ
 field_line_if name None = []
 field_line_if name (Some value) = field_line name value
 
--- a GET like that, with these fields before the last one
-abbrev pub request_with : ForwardedFields → List ℕ → List ℕ → List ℕ → List ℕ
-request_with fields target host agent =
+-- the option for the connection; one that is kept alive needs none, since HTTP/1.1 keeps it
+abbrev pub closing_value : ConnectionEnding → Option (List ℕ)
+closing_value Close = Some (codes "close")
+closing_value KeepAlive = None
+
+-- a GET like that, with these fields before the last one, which a connection that is kept alive leaves out
+abbrev pub request_with : ConnectionEnding → ForwardedFields → List ℕ → List ℕ → List ℕ → List ℕ
+request_with ending fields target host agent =
     request_line target
     ++ (field_line (codes "Host") host
     ++ (field_line (codes "User-Agent") agent
@@ -50,7 +57,7 @@ request_with fields target host agent =
     ++ (field_line_if (codes "If-Modified-Since") fields.if_modified_since
     ++ (field_line_if (codes "Accept") fields.accept
     ++ (field_line_if (codes "Accept-Language") fields.accept_language
-    ++ (field_line (codes "Connection") (codes "close") ++ crlf_bytes)))))))))
+    ++ (field_line_if (codes "Connection") (closing_value ending) ++ crlf_bytes)))))))))
 
 -- the octets of pieces in a row
 abbrev pub joined_pieces : List (Bor (List ℕ)) → List ℕ

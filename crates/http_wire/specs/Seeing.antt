@@ -1,6 +1,6 @@
 -- What looks at the octets of a body see.
 -- Cited by `BodyDecoder`.
-use Rattle.std.specs.Prelude.{◌≡◌, ℕ, ◌<◌, ◌≤◌, ◌⊎◌, Bool, true, IsTrue, List, ◌++◌, length, ⊤}
+use Rattle.std.specs.Prelude.{◌≡◌, ℕ, ◌<◌, ◌≤◌, ◌⊎◌, Bool, false, true, IsTrue, List, [], ◌++◌, length, ⊤}
 use Rattle.http_wire.specs.Bodies.{Gives, GivesFirst, IsBadBody}
 use Rattle.http_wire.specs.Chunks.{EndsInChunked, EndsTooLong}
 use Rattle.http_wire.specs.Decoding.{Stands}
@@ -53,10 +53,11 @@ pub record KeepsBody (old new : BodyDecoder) : Type 0 where
 
 -- ---- what a look sees
 
--- the text gives this body, whatever follows
+-- the text gives this body, whatever follows, and has nothing behind it where it is alone
 pub record GivesBody (framing : Framing) (limit : ℕ) (text : List ℕ) (body : Body) : Type 0 where
   pub rest : List ℕ
   pub gives : (more : List ℕ) → Gives framing limit (text ++ more) body.octets.items body.cut (rest ++ more)
+  pub alone : IsTrue body.alone → rest ≡ []
 
 -- as many lines as trailers may have, without an end
 abbrev pub HasFullTrailers : Framing → ℕ → List ℕ → Type 0
@@ -85,6 +86,7 @@ SeesBody framing limit text last More = IsTrue last → IsOpen framing limit tex
 -- the body is the first limit octets of a longer text
 pub record GivesPrefix (limit : ℕ) (text : List ℕ) (body : Body) : Type 0 where
   pub cut : body.cut ≡ true
+  pub alone : body.alone ≡ false
   pub rest : List ℕ
   pub first : (more : List ℕ) → GivesFirst limit (text ++ more) body.octets.items (rest ++ more)
 
@@ -94,11 +96,11 @@ SeesPrefix limit text (Given body) = GivesPrefix limit text body
 SeesPrefix limit text Full = ⊥
 SeesPrefix limit text More = length text ≤ limit
 
--- a body of these octets
-abbrev pub IsGiven : List ℕ → Bool → BodySeen → Type 0
-IsGiven octets cut (Given body) = (body.octets.items ≡ octets) × (body.cut ≡ cut)
-IsGiven octets cut Full = ⊥
-IsGiven octets cut More = ⊥
+-- a body of these octets, cut or not, alone in the buffer or not
+abbrev pub IsGiven : List ℕ → Bool → Bool → BodySeen → Type 0
+IsGiven octets cut alone (Given body) = (body.octets.items ≡ octets) × (body.cut ≡ cut) × (body.alone ≡ alone)
+IsGiven octets cut alone Full = ⊥
+IsGiven octets cut alone More = ⊥
 
 -- a look without a result leaves the buffer
 abbrev pub LeavesBuffer : List ℕ → List ℕ → BodySeen → Type 0

@@ -1,6 +1,6 @@
 //! A body, decoded by its framing from all octets received.
 //! RFC 9112, section 6.3.
-ghost use Rattle.std.specs.Prelude.{◌≡◌, ◌≤◌, ◌<◌, ◌+◌, ◌++◌, ℕ, List, Bool, true, None, Ok, IfOk, IfErr, drop, length, take};
+ghost use Rattle.std.specs.Prelude.{◌≡◌, ◌≤◌, ◌<◌, ◌+◌, ◌++◌, ℕ, List, Bool, false, true, None, Ok, IfOk, IfErr, drop, length, take};
 ghost use Rattle.http_wire.specs.Limits.{raw_limit};
 ghost use Rattle.http_wire.specs.Reading.{TellsBody};
 ghost use Rattle.http_wire.specs.Response.{failures_after_reading};
@@ -69,10 +69,11 @@ impl BodyDecoder {
         requires within { length buffer.old ≤ raw_limit self.old.limit }
         ensures tells { TellsBody (framing_in self.old) self.old.limit self.old.start
             buffer.old result }
+        ensures ended { IfOk result (λ body. body.alone ≡ false) }
         ensures count { (failures : ℕ) → failures_after_reading failures result ≡ failures }
     {
         match self.see(alloc, buffer, true)? {
-            BodySeen::Given(body) => Ok(body),
+            BodySeen::Given(body) => Ok(not_alone(body)),
             BodySeen::Full => Err(WireFault::BadChunk),
             BodySeen::More => self.end_open(alloc, buffer),
         }
@@ -85,10 +86,11 @@ impl BodyDecoder {
         ensures tells { (more : List ℕ) → 0 < length more
             → TellsBody (framing_in self.old) self.old.limit self.old.start
             (buffer.old ++ more) result }
+        ensures ended { IfOk result (λ body. body.alone ≡ false) }
         ensures count { (failures : ℕ) → failures_after_reading failures result ≡ failures }
     {
         match self.see(alloc, buffer, true)? {
-            BodySeen::Given(body) => Ok(body),
+            BodySeen::Given(body) => Ok(not_alone(body)),
             BodySeen::Full => Err(WireFault::TooMuch),
             BodySeen::More => Err(WireFault::TooMuch),
         }
@@ -121,6 +123,7 @@ impl BodyDecoder {
             (drop self.now.start buffer.old) }
         ensures tells { TellsBody (framing_in self.now) self.now.limit self.now.start
             buffer.old result }
+        ensures ended { IfOk result (λ body. body.alone ≡ false) }
         ensures count { (failures : ℕ) → failures_after_reading failures result ≡ failures }
     {
         match self.form {
@@ -129,6 +132,7 @@ impl BodyDecoder {
                 Ok(Body {
                     octets: buffer.hand_out(alloc, self.start, len),
                     cut: false,
+                    alone: false,
                 })
             }
             _ => Err(WireFault::EarlyEnd),
@@ -186,7 +190,10 @@ fn see_counted(
     if (come as u64) < size {
         return BodySeen::More;
     }
-    give(alloc, buffer, start, size as usize, false)
+    if come as u64 == size {
+        return give(alloc, buffer, start, size as usize, false, true);
+    }
+    give(alloc, buffer, start, size as usize, false, false)
 }
 
 // The first `limit` octets, if there is one more.
@@ -198,7 +205,7 @@ fn see_prefix(alloc: Global, buffer: &mut Buffer, start: usize, limit: usize) ->
     if buffer.octets().len() - start <= limit {
         return BodySeen::More;
     }
-    give(alloc, buffer, start, limit, true)
+    give(alloc, buffer, start, limit, true, false)
 }
 
 fn see_chunked(
@@ -216,13 +223,15 @@ fn see_chunked(
         (Refuses Framing.Chunked decoder.old.limit (drop decoder.old.start buffer.now)) }
 {
     match decoder.look(buffer.octets(), last)? {
-        PartSeen::Whole => Ok(BodySeen::Given(Body {
+        PartSeen::Whole(behind) => Ok(BodySeen::Given(Body {
             octets: decoder.take_octets(alloc),
             cut: false,
+            alone: behind == 0,
         })),
         PartSeen::Cut => Ok(BodySeen::Given(Body {
             octets: decoder.take_octets(alloc),
             cut: true,
+            alone: false,
         })),
         PartSeen::Bad => Err(WireFault::BadChunk),
         PartSeen::Full => Ok(BodySeen::Full),
@@ -230,12 +239,32 @@ fn see_chunked(
     }
 }
 
-fn give(alloc: Global, buffer: &mut Buffer, start: usize, len: usize, cut: bool) -> BodySeen
+fn give(
+    alloc: Global,
+    buffer: &mut Buffer,
+    start: usize,
+    len: usize,
+    cut: bool,
+    alone: bool,
+) -> BodySeen
     requires { start + len ≤ length buffer.old }
-    ensures { IsGiven (take len (drop start buffer.old)) cut result }
+    ensures { IsGiven (take len (drop start buffer.old)) cut alone result }
 {
     BodySeen::Given(Body {
         octets: buffer.hand_out(alloc, start, len),
         cut,
+        alone,
     })
+}
+
+// The body, after which the input has ended or is not read on.
+fn not_alone(body: Body) -> Body
+    ensures octets { result.octets ≡ body.octets }
+    ensures cut { result.cut ≡ body.cut }
+    ensures alone { result.alone ≡ false }
+{
+    Body {
+        alone: false,
+        ..body
+    }
 }

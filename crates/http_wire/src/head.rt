@@ -18,6 +18,7 @@ use crate::head_scan::HeadScan;
 use crate::limits::{MAX_HEAD, MAX_HEADER_LINES, MAX_INTERIM_HEADS};
 use crate::line_ends::count_line_ends;
 use crate::part::Part;
+use crate::persistence::persists;
 use httparse::spans::{EMPTY_HEADER_SPAN, HeaderSpan, ResponseSpans, parse_response};
 use httparse::{Error, Status};
 use std::alloc::{AllocError, Global};
@@ -29,6 +30,8 @@ pub(crate) struct FinalHead {
     pub framing: Framing,
     pub location: Option<String>,
     pub max_age: Option<u64>,
+    /// Whether a connection may go on after its response.
+    pub persists: bool,
     /// Its octets, with its empty line and the empty lines before it.
     pub octets: Vec<u8>,
     /// Where the body begins, counted from the start of the input.
@@ -264,7 +267,7 @@ fn plan(
 ) -> Result<FinalHead, WireFault>
     requires within { IsResponseWithin text.now headers.now spans }
     requires room { length headers.now ≡ MAX_HEADER_LINES }
-    ensures ok { IfOk result (IsPlan spans.code
+    ensures ok { IfOk result (IsPlan spans.code spans.version
         (map (header_bytes text.now) (take spans.headers headers.now)) (take spans.len text.now) end) }
     ensures err { IfErr result (HasNoPlan spans.code
         (map (header_bytes text.now) (take spans.headers headers.now))) }
@@ -273,7 +276,7 @@ fn plan(
     cover(text, &headers[..spans.headers], &mut slots);
     plan_of(
         alloc,
-        spans.code,
+        &spans,
         &slots[..spans.headers],
         &text[..spans.len],
         end,
@@ -282,14 +285,16 @@ fn plan(
 
 fn plan_of(
     alloc: Global,
-    status: u16,
+    line: &ResponseSpans,
     fields: &[Field<'_>],
     octets: &[u8],
     end: usize,
 ) -> Result<FinalHead, WireFault>
-    ensures ok { IfOk result (IsPlan status (pairs fields.now) octets.now end) }
-    ensures err { IfErr result (HasNoPlan status (pairs fields.now)) }
+    ensures ok { IfOk result
+        (IsPlan line.now.code line.now.version (pairs fields.now) octets.now end) }
+    ensures err { IfErr result (HasNoPlan line.now.code (pairs fields.now)) }
 {
+    let status = line.code;
     if is_coded(status, fields) {
         return Err(WireFault::Coding);
     }
@@ -304,6 +309,7 @@ fn plan_of(
         framing,
         location,
         max_age: max_age_of(fields),
+        persists: persists(line.version, fields),
         octets: Vec::from_slice(alloc, octets)?,
         end,
     })

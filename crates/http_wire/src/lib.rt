@@ -6,6 +6,7 @@ mod body;
 mod body_decoder;
 mod buffer;
 mod chunked;
+mod ending;
 mod fault;
 mod fields;
 mod forwarded_fields;
@@ -19,10 +20,12 @@ mod line_ends;
 mod numbers;
 mod part;
 mod part_seen;
+mod persistence;
 mod request;
 mod response;
 mod trailers;
 
+pub use ending::ConnectionEnding;
 pub use fault::WireFault;
 pub use forwarded_fields::{FieldValue, ForwardedFields};
 pub use kept_fields::KeptField;
@@ -31,4 +34,4 @@ pub use limits::{
     MAX_TRAILERS, USUAL_LIMIT,
 };
 pub use request::{write_get, write_get_with};
-pub use response::{HttpReply, read_response};
+pub use response::{HttpReply, read_response, read_response_with};

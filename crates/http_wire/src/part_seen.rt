@@ -4,8 +4,8 @@
 /// What the octets so far are of one part of a response.
 #[derive(Clone, Copy, PartialEq, Eq)]
 pub(crate) enum PartSeen {
-    /// The whole part.
-    Whole,
+    /// The whole part. So many octets were received behind it.
+    Whole(usize),
     /// The octet after the last one to give has come.
     Cut,
     /// No part, whatever follows.

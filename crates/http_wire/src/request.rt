@@ -4,8 +4,9 @@ ghost use Rattle.std.specs.Prelude.{◌≡◌, ◌≤◌, ◌++◌, All, length,
 ghost use Rattle.std.specs.Io.KnownBytes.{Appends};
 ghost use Rattle.counted_io.specs.Device.{failures_after, AppendsPrefix};
 ghost use Rattle.path_normal.specs.PageText.{host_of, target_of};
-ghost use Rattle.http_wire.specs.Request.{joined_pieces, line_after, request, request_with};
+ghost use Rattle.http_wire.specs.Request.{closing_value, joined_pieces, line_after, request, request_with};
 
+use crate::ending::ConnectionEnding;
 use crate::fault::WireFault;
 use crate::forwarded_fields::{FieldValue, ForwardedFields};
 use counted_io::{DeviceFault, Sink, write_all};
@@ -35,21 +36,29 @@ pub fn write_get<W: Sink>(writer: &mut W, url: &PageUrl, agent: &str) -> Result<
     ensures fault { OnErr result (result ≡ Err WireFault.Device) }
     ensures count { W.failures writer.new ≡ failures_after (W.failures writer.old) result }
 {
-    write_get_with(writer, url, agent, &ForwardedFields::none())
+    write_get_with(
+        writer,
+        url,
+        agent,
+        &ForwardedFields::none(),
+        ConnectionEnding::Close,
+    )
 }
 
-/// Like `write_get`, with these fields between the lines of Accept-Encoding and Connection.
+/// Like `write_get`, with these fields between the lines of Accept-Encoding and Connection. Without the last
+/// line if the connection is to be kept alive.
 pub fn write_get_with<W: Sink>(
     writer: &mut W,
     url: &PageUrl,
     agent: &str,
     fields: &ForwardedFields<'_>,
+    ending: ConnectionEnding,
 ) -> Result<(), WireFault>
     requires { All (λ octet. (32 ≤ octet) × (octet ≤ 126)) agent.now }
     ensures ok { OnOk result (Appends (W.written writer.old) (W.written writer.new)
-        (request_with fields.now (target_of url.now) (host_of url.now) agent.now)) }
+        (request_with ending fields.now (target_of url.now) (host_of url.now) agent.now)) }
     ensures err { OnErr result (AppendsPrefix (W.written writer.old) (W.written writer.new)
-        (request_with fields.now (target_of url.now) (host_of url.now) agent.now)) }
+        (request_with ending fields.now (target_of url.now) (host_of url.now) agent.now)) }
     ensures fault { OnErr result (result ≡ Err WireFault.Device) }
     ensures count { W.failures writer.new ≡ failures_after (W.failures writer.old) result }
 {
@@ -57,7 +66,8 @@ pub fn write_get_with<W: Sink>(
     let since = line_from(b"If-Modified-Since: ", &fields.if_modified_since);
     let types = line_from(b"Accept: ", &fields.accept);
     let languages = line_from(b"Accept-Language: ", &fields.accept_language);
-    let pieces: [&[u8]; 20] = [
+    let closing = closing_from(b"Connection: ", ending);
+    let pieces: [&[u8]; 23] = [
         b"GET ",
         url.target().as_bytes(),
         b" HTTP/1.1\r\nHost: ",
@@ -77,9 +87,27 @@ pub fn write_get_with<W: Sink>(
         languages.begin,
         languages.value,
         languages.end,
-        b"Connection: close\r\n\r\n",
+        closing.begin,
+        closing.value,
+        closing.end,
+        b"\r\n",
     ];
     write_gathered(writer, &pieces)
+}
+
+// The line of Connection, if there is one.
+fn closing_from<'a>(begin: &'a [u8], ending: ConnectionEnding) -> FieldLine<'a>
+    ensures { result.begin.now ++ (result.value.now ++ result.end.now)
+        ≡ line_after begin.now (closing_value ending) }
+{
+    match ending {
+        ConnectionEnding::Close => FieldLine {
+            begin,
+            value: b"close",
+            end: b"\r\n",
+        },
+        ConnectionEnding::KeepAlive => line_from(begin, &None),
+    }
 }
 
 fn line_from<'a>(begin: &'a [u8], value: &Option<FieldValue<'a>>) -> FieldLine<'a>

@@ -4,16 +4,19 @@ ghost use Rattle.std.specs.Prelude.{◌≡◌, ◌+◌, ◌≤◌, [], length, I
 ghost use Rattle.http_wire.specs.Finding.{Fails, IsFound};
 ghost use Rattle.http_wire.specs.Kept.{KeepsOf, kept_pairs};
 ghost use Rattle.http_wire.specs.Limits.{AreLimits, raw_limit};
+ghost use Rattle.http_wire.specs.Persistence.{EndsAs};
 ghost use Rattle.http_wire.specs.Reading.{Grows, TakesAtMost};
 ghost use Rattle.http_wire.specs.Response.{Finds, Tells, failures_after_reading};
 
 use crate::body::read_body;
 use crate::buffer::Buffer;
+use crate::ending::ConnectionEnding;
 use crate::fault::WireFault;
 use crate::head::{FinalHead, HeadFinder};
 use crate::kept_fields::{KeptField, kept_in};
 use crate::limits::raw_limit;
 use crate::part::{Reached, fill_until};
+use crate::persistence::ending_after;
 use counted_io::Source;
 use std::alloc::{AllocError, Global};
 
@@ -64,22 +67,44 @@ pub fn read_response<S: Source>(
     ensures count { S.failures source.new ≡ failures_after_reading (S.failures source.old) result }
     ensures takes { TakesAtMost (raw_limit limit + 1) (S.left source.old) (S.left source.new) }
 {
-    read_reply(alloc, source, limit)
+    read_response_with(alloc, source, limit, &mut ConnectionEnding::Close)
 }
 
-// `read_response` without the contract that a response is found.
+/// Like `read_response`, and tells what becomes of the connection: `KeepAlive` if another request may follow.
+/// Then the response was read to its end and no octet behind it. It is of HTTP/1.1, no option of Connection is
+/// `close`, and its body ended by itself and is whole. So after a fault the connection closes.
+pub fn read_response_with<S: Source>(
+    alloc: Global,
+    source: &mut S,
+    limit: usize,
+    ending: &mut ConnectionEnding,
+) -> Result<HttpReply, WireFault>
+    ensures tells { Tells (S.left source.old) limit result }
+    ensures found { Finds (S.left source.old) limit result }
+    ensures ends { EndsAs (S.left source.old) (S.left source.new) limit result ending.new }
+    ensures count { S.failures source.new ≡ failures_after_reading (S.failures source.old) result }
+    ensures takes { TakesAtMost (raw_limit limit + 1) (S.left source.old) (S.left source.new) }
+{
+    read_reply(alloc, source, limit, ending)
+}
+
+// `read_response_with` without the contract that a response is found.
 fn read_reply<S: Source>(
     alloc: Global,
     source: &mut S,
     limit: usize,
+    ending: &mut ConnectionEnding,
 ) -> Result<HttpReply, WireFault>
     ensures tells { Tells (S.left source.old) limit result }
+    ensures ends { EndsAs (S.left source.old) (S.left source.new) limit result ending.new }
     ensures count { S.failures source.new ≡ failures_after_reading (S.failures source.old) result }
     ensures takes { TakesAtMost (raw_limit limit + 1) (S.left source.old) (S.left source.new) }
 {
+    *ending = ConnectionEnding::Close;
     let mut buffer = Buffer::new(alloc);
     let head = read_final(alloc, source, &mut buffer, limit)?;
     let body = read_body(alloc, source, &mut buffer, head.framing, head.end, limit)?;
+    *ending = ending_after(&head, &body);
     Ok(HttpReply {
         status: head.status,
         location: head.location,

@@ -13,8 +13,8 @@ use httparse::{Error, Status};
 /// What these octets of trailers are.
 #[derive(Clone, Copy, PartialEq, Eq)]
 enum TrailerSection {
-    /// The whole trailers, and what follows.
-    Whole,
+    /// The whole trailers, of so many octets, and what follows.
+    Whole(usize),
     /// A part of trailers that can go on.
     Open,
     /// More lines than trailers may have.
@@ -39,7 +39,7 @@ fn look_short(text: &[u8], last: bool) -> PartSeen
     ensures { TrailersTell text.now last result }
 {
     match read_section(text) {
-        TrailerSection::Whole => PartSeen::Whole,
+        TrailerSection::Whole(len) => PartSeen::Whole(text.len() - len),
         TrailerSection::Bad => PartSeen::Bad,
         TrailerSection::Over if last => PartSeen::Bad,
         TrailerSection::Over => PartSeen::More,
@@ -53,8 +53,8 @@ fn look_full(text: &[u8]) -> PartSeen
     ensures { (last : Bool) → TrailersTell text.now last result }
 {
     match read_section(&text[..MAX_TRAILER_BYTES]) {
-        TrailerSection::Whole => PartSeen::Whole,
-        _ => PartSeen::Bad,
+        TrailerSection::Whole(len) => PartSeen::Whole(text.len() - len),
+        TrailerSection::Open | TrailerSection::Over | TrailerSection::Bad => PartSeen::Bad,
     }
 }
 
@@ -65,7 +65,7 @@ fn read_section(text: &[u8]) -> TrailerSection
 {
     let mut headers = [EMPTY_HEADER_SPAN; MAX_TRAILERS];
     match parse_headers(text, &mut headers) {
-        Ok(Status::Complete(_)) => TrailerSection::Whole,
+        Ok(Status::Complete((len, _))) => TrailerSection::Whole(len),
         Ok(Status::Partial) => TrailerSection::Open,
         Err(Error::TooManyHeaders) => TrailerSection::Over,
         Err(_) => TrailerSection::Bad,

@@ -44,8 +44,7 @@ pub trait Chronicle {
         ensures follows { IfOk result (λ text. follows self.now place text.0.items text.1) }
         ensures idle { output.new ≡ [] };
 
-    /// Writes the text that begins a file, and returns its end. It takes no memory, and no entry comes before
-    /// all is written.
+    /// Writes the text that begins a file, and returns its end. No entry comes before all is written.
     fn begin<W: Sink>(
         &self,
         output: &mut Output,
@@ -122,7 +121,7 @@ pub trait Sealer {
         ensures number { IfSome result (numbers sealed.now) }
         ensures none { result ≡ None → nothing sealed.now };
 
-    /// Writes the text of the base before what was sealed. It takes no memory.
+    /// Writes the text of the base before what was sealed.
     fn write_base<W: Sink>(
         sealed: &Self::Sealed,
         output: &mut Output,

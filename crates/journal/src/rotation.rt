@@ -86,7 +86,7 @@ impl<S: Shelf> Writer<S> {
                 Ok(Turned::Part)
             }
             Rest::Last(text, next) => {
-                self.end_file(text.as_slice())?;
+                self.end_file(text.as_slice(), next.spelled)?;
                 self.give_back(text);
                 self.begin_log(next)?;
                 Ok(Turned::Done)

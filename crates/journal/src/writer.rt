@@ -1,10 +1,12 @@
 //! Writes a journal: formats what the files lack, and writes that.
 //! One thread has it at a time; `GroupJournal` passes it on.
-ghost use Rattle.std.specs.Prelude.{◌≡◌, ◌≢◌, [], IfOk, OnOk, false, true};
+ghost use Rattle.std.specs.Prelude.{◌≡◌, ◌≢◌, ◌↔◌, ◌-◌, [], IfOk, IsTrue, OnErr, OnOk, false, length, true};
+ghost use Rattle.journal.specs.Bases.{HasTextRoom, IsFar, distance_from, entries_added, octets_added};
 ghost use Rattle.journal.specs.Crash.{HasKept};
 ghost use Rattle.journal.specs.Journal.{Writes};
 ghost use Rattle.journal.specs.declared.policy.SyncPolicy.TheVariants as SyncPolicy;
-ghost use Rattle.journal.specs.Writing.{BeginsFirst, BeginsLog, CatchesUpTo, IsRest, WritesText};
+ghost use Rattle.journal.specs.Rooms.{HasRoom};
+ghost use Rattle.journal.specs.Writing.{BeginsFirst, BeginsLog, CatchesUpTo, CountsFile, IsRest, WritesText, filled};
 
 use crate::chronicle::{Chronicle, Rest, Sealer, Spelled};
 use crate::distance::Distance;
@@ -45,7 +47,13 @@ impl<S: Shelf> Model for Writer<S> {
 
     ghost Value = { Written };
 
-    ghost view = { λ w. record { noted = w.journal; place = w.place } };
+    ghost view = { λ w. record {
+      noted = w.journal;
+      place = w.place;
+      distance = w.distance;
+      begun = w.begun;
+      room = w.room;
+    } };
 
     ghost invariant = { λ w. (w.output ≡ []) × (w.memory.items ≡ []) };
 }
@@ -109,7 +117,10 @@ impl<S: Shelf> Writer<S> {
             → HasKept self.new.noted.written self.new.noted.kept) }
         ensures same { OnOk result (policy ≡ SyncPolicy.Second
             → Writes self.old.noted self.new.noted []) }
-        ensures idle { policy ≢ SyncPolicy.Second → self.new ≡ self.old }
+        ensures idle { policy ≢ SyncPolicy.Second
+            → self.new ≡ record self.old { room = self.new.room } }
+        ensures counts { (self.new.distance ≡ self.old.distance)
+            × (self.new.begun ≡ self.old.begun) }
         ensures place { self.new.place ≡ self.old.place }
     {
         self.shelf.look()?;
@@ -121,23 +132,34 @@ impl<S: Shelf> Writer<S> {
     }
 
     // Whether entries may come.
-    pub fn has_room(&self) -> bool {
+    pub fn has_room(&self) -> bool
+        ensures { IsTrue result ↔ HasRoom self.now.room × HasTextRoom self.now.distance }
+    {
         self.room.is_left() && self.distance.has_text_room()
     }
 
     // Whether a base is due. Without room for files none is.
-    pub fn is_base_due(&self) -> bool {
+    pub fn is_base_due(&self) -> bool
+        ensures { IsTrue result
+            ↔ HasRoom self.now.room × IsFar self.now.distance self.now.room.limit }
+    {
         self.room.is_left() && self.distance.is_far(self.room.limit())
     }
 
     // The distance from the last base to the file's beginning.
-    pub fn begun(&self) -> Distance {
+    pub fn begun(&self) -> Distance
+        ensures { result ≡ self.now.begun }
+    {
         self.begun
     }
 
     // A base of so many octets stands where the distance from the one before was this.
     pub fn note_base(&mut self, there: Distance, octets: u64)
-        ensures { self.new ≡ self.old }
+        ensures { self.new ≡ record self.old {
+          distance = distance_from self.old.distance there octets;
+          begun = distance_from self.old.begun there octets;
+          room = filled self.old.room octets;
+        } }
     {
         self.distance = self.distance.from(there, octets);
         self.begun = self.begun.from(there, octets);
@@ -146,7 +168,8 @@ impl<S: Shelf> Writer<S> {
 
     // Where there was no room, counts anew: old files may have been moved away.
     fn look_for_room(&mut self)
-        ensures { self.new ≡ self.old }
+        ensures same { self.new ≡ record self.old { room = self.new.room } }
+        ensures limit { self.new.room.limit ≡ self.old.room.limit }
     {
         if self.room.is_left() {
             return;
@@ -193,8 +216,10 @@ impl<S: Shelf> Writer<S> {
         ensures kept { OnOk result (HasKept self.new.noted.written self.new.noted.kept) }
         ensures same { OnOk result (Writes self.old.noted self.new.noted []) }
         ensures place { self.new.place ≡ self.old.place }
+        ensures counts { (self.new.distance ≡ self.old.distance)
+            × (self.new.begun ≡ self.old.begun) }
     {
-        self.write(&[], true)
+        self.append(&[], true)
     }
 
     // Writes some entries of what was sealed.
@@ -207,16 +232,22 @@ impl<S: Shelf> Writer<S> {
         Ok(())
     }
 
-    // Writes the end of the file, and syncs it.
-    pub fn end_file(&mut self, rest: &[u8]) -> Result<(), JournalFault>
+    // Writes the end of the file, with which so many entries are spelled, and syncs it.
+    pub fn end_file(&mut self, rest: &[u8], spelled: u64) -> Result<(), JournalFault>
         ensures { OnOk result (WritesText (λ text. text ≡ rest.now) self.old self.new true) }
     {
-        self.write(rest, true)
+        self.write(rest, true)?;
+        self.move_to(JournalPosition {
+            begun: self.place.begun,
+            spelled,
+        });
+        Ok(())
     }
 
     // Begins the next file, without a text: entries follow at once.
     pub fn begin_log(&mut self, next: JournalPosition) -> Result<(), JournalFault>
-        ensures { OnOk result (BeginsLog next self.new) }
+        ensures begins { OnOk result (BeginsLog next self.new) }
+        ensures counts { OnOk result (CountsFile next self.old self.new) }
     {
         let BegunFile {
             tape,
@@ -234,8 +265,10 @@ impl<S: Shelf> Writer<S> {
 
     // The text has grown to this place.
     fn move_to(&mut self, place: JournalPosition)
-        ensures place { self.new.place ≡ place }
-        ensures noted { self.new.noted ≡ self.old.noted }
+        ensures { self.new ≡ record self.old {
+          place = place;
+          distance = entries_added self.old.distance (place.spelled - self.old.place.spelled);
+        } }
     {
         let entries = place.spelled.saturating_sub(self.place.spelled);
         self.distance.add_entries(entries);
@@ -262,24 +295,41 @@ impl<S: Shelf> Writer<S> {
         K::rest(sealed, &mut self.output, self.place, memory)
     }
 
-    // Appends a text, and syncs it if asked.
+    // Appends a text, which counts, and syncs it if asked.
     fn write(&mut self, text: &[u8], always: bool) -> Result<(), JournalFault>
         ensures writes { OnOk result (Writes self.old.noted self.new.noted text.now) }
         ensures kept { OnOk result (always ≡ true
             → HasKept self.new.noted.written self.new.noted.kept) }
         ensures place { self.new.place ≡ self.old.place }
+        ensures begun { self.new.begun ≡ self.old.begun }
+        ensures distance { OnOk result
+            (self.new.distance ≡ octets_added self.old.distance (length text.now)) }
+        ensures room { OnOk result (self.new.room ≡ filled self.old.room (length text.now)) }
+        ensures unwritten { OnErr result ((self.new.distance ≡ self.old.distance)
+            × (self.new.room ≡ self.old.room)) }
+    {
+        self.append(text, always)?;
+        self.octets = self.octets.saturating_add(text.len() as u64);
+        self.distance.add_octets(text.len() as u64);
+        self.room.add(text.len() as u64);
+        Ok(())
+    }
+
+    // Appends octets that do not count, and syncs them if asked.
+    fn append(&mut self, text: &[u8], always: bool) -> Result<(), JournalFault>
+        ensures writes { OnOk result (Writes self.old.noted self.new.noted text.now) }
+        ensures kept { OnOk result (always ≡ true
+            → HasKept self.new.noted.written self.new.noted.kept) }
+        ensures same { self.new ≡ record self.old { noted = self.new.noted } }
     {
         let result = if always {
             self.journal.commit(text)
         } else {
             self.journal.write(text)
         };
-        if result.is_err() {
-            return Err(JournalFault::Device(self.journal.tape().cause()));
+        match result {
+            Ok(()) => Ok(()),
+            Err(_) => Err(JournalFault::Device(self.journal.tape().cause())),
         }
-        self.octets = self.octets.saturating_add(text.len() as u64);
-        self.distance.add_octets(text.len() as u64);
-        self.room.add(text.len() as u64);
-        Ok(())
     }
 }

@@ -37,7 +37,9 @@ with_counts text counts =
 -- a text, and then the clients that send lines
 abbrev pub with_clients : List ℕ → ServerCounts → List ℕ
 with_clients text server =
-    with_gauge (with_counter text (codes "connections_total") server.connections) (codes "clients") server.clients
+    let taken = with_counter text (codes "connections_total") server.connections in
+    let served = with_gauge taken (codes "clients") server.clients in
+    with_gauge served (codes "waiting") server.waiting
 
 -- a text, and then the denials by an answer
 abbrev pub with_rulings : List ℕ → DenialCounts → List ℕ

@@ -86,7 +86,8 @@ fn push_clients(text: &mut Vec<u8>, server: ServerCounts) -> Result<(), AllocErr
     ensures { OnOk result (text.new.items ≡ with_clients text.old.items server) }
 {
     push_counter(text, "connections_total", server.connections)?;
-    push_gauge(text, "clients", server.clients)
+    push_gauge(text, "clients", server.clients)?;
+    push_gauge(text, "waiting", server.waiting)
 }
 
 // The denials by an answer.

@@ -128,7 +128,11 @@ impl<
             gate,
             chronicle,
             journal,
-            counters: ServerCounters::new(self.fetcher.meter(), journal.meter()),
+            counters: ServerCounters::new(
+                Some(self.listener),
+                self.fetcher.meter(),
+                journal.meter(),
+            ),
         };
         let served = self.serve_recorded(&recorded, begun)?;
         // Entries without a reply are recorded too.

@@ -60,17 +60,6 @@ impl Authority {
         })
     }
 
-    /// The authority of a text taken from one before. Does not parse it again.
-    pub fn of_known(alloc: Global, text: &str) -> Result<Authority, AllocError>
-        requires { IsAuthority text.now }
-        ensures { IfOk result (λ authority. authority ≡ text.now) }
-    {
-        let text = String::from_str(alloc, text)?;
-        Ok(Authority {
-            text: Arc::new(alloc, text)?,
-        })
-    }
-
     /// A copy of the authority. Takes no memory: the text is shared.
     pub fn copy(&self) -> Result<Authority, AllocError>
         ensures { IfOk result (λ copy. copy ≡ self.now) }

@@ -147,7 +147,7 @@ fn top_bits(lanes: u8x64) -> u64
 
 // The index of the lowest set bit.
 #[inline(always)]
-fn lowest(marks: u64) -> usize
+pub(crate) fn lowest(marks: u64) -> usize
     requires { marks ≢ 0 }
     ensures bound { result < 64 }
     ensures set { bit_at marks result ≡ 1 }

@@ -21,6 +21,8 @@ use Rattle.program_arguments.specs.declared.subcommand.Notes.TheVariants as note
 use Rattle.program_arguments.specs.declared.subcommand.HttpOptions.{HttpOptions}
 use Rattle.program_arguments.specs.declared.subcommand.ClientFields.{ClientFields}
 use Rattle.program_arguments.specs.declared.subcommand.ClientFields.TheVariants.{Dropped, Forwarded}
+use Rattle.program_arguments.specs.declared.subcommand.PageConnections.{PageConnections}
+use Rattle.program_arguments.specs.declared.subcommand.PageConnections.TheVariants.{Kept, Single}
 use Rattle.program_arguments.specs.declared.subcommand.RetryAfter.{RetryAfter}
 use Rattle.program_arguments.specs.declared.subcommand.RetryAfter.TheVariants.{Heeded, Ignored}
 use Rattle.program_arguments.specs.declared.subcommand.ListenAddress.{ListenAddress}
@@ -166,6 +168,11 @@ pub record IsReachOf (words : Found) (reach : Reach) : Type 0 where
   pub public : one_text words (codes "public") ≡ Some (codes "true") → reach ≡ PublicOnly
   pub anywhere : one_text words (codes "public") ≡ Some (codes "false") → reach ≡ Anywhere
 
+-- connections stay open for the next page if the flag says so, else each page has its own
+pub record ArePageConnectionsOf (words : Found) (connections : PageConnections) : Type 0 where
+  pub kept : one_text words (codes "keep-alive") ≡ Some (codes "true") → connections ≡ Kept
+  pub single : one_text words (codes "keep-alive") ≡ Some (codes "false") → connections ≡ Single
+
 -- pages of `https` are read too if the flag says so
 pub record AreSchemesOf (words : Found) (schemes : Schemes) : Type 0 where
   pub both : one_text words (codes "https") ≡ Some (codes "true") → schemes ≡ HttpAndHttps
@@ -207,6 +214,7 @@ pub record AreFetchingOf (words : Found) (options : Fetching) : Type 0 where
   pub tls : IsTlsByOf words options.tls_by
   pub contact : IsContactOf words options.contact
   pub retry_closed : IsBoundOf words (codes "retry-closed") options.retry_closed
+  pub page_connections : ArePageConnectionsOf words options.page_connections
   pub journal : IsJournalOf words options.journal
 
 -- the options of a shift are those matched
@@ -216,6 +224,7 @@ pub record AreShiftOf (words : Found) (options : ShiftOptions) : Type 0 where
   pub tls : IsTlsByOf words options.tls_by
   pub contact : IsContactOf words options.contact
   pub retry_closed : IsBoundOf words (codes "retry-closed") options.retry_closed
+  pub page_connections : ArePageConnectionsOf words options.page_connections
   pub workers : IsNumberOf words (codes "workers") options.workers
   pub delay : IsNumberOf words (codes "delay") options.delay
   pub limits : AreLimitsOf words options.limits
@@ -366,6 +375,7 @@ pub record AreServeOf (words : Found) (options : ServeOptions) : Type 0 where
   pub tls : IsTlsByOf words options.tls_by
   pub contact : IsContactOf words options.contact
   pub retry_closed : IsBoundOf words (codes "retry-closed") options.retry_closed
+  pub page_connections : ArePageConnectionsOf words options.page_connections
   pub place : IsPlaceOf words options.place
   pub seal_place : IsSealPlaceOf words options.seal_place
   pub http : IsHttpOf words options.workers options.http

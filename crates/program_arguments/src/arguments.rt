@@ -9,8 +9,8 @@ use crate::number_arguments::{
 };
 use crate::word_arguments::{
     CONTACT, ENDLESS, EXPLAIN, EXPORT, EXPORT_OF_SHIFT, FORWARD, HEED_RETRY_AFTER, HTTP_SOCKET,
-    HTTPS, HTTPS_PAGES, JOURNAL, JOURNAL_OF_SHIFT, JOURNAL_SYNC, NOT_TO, NOTES, PUBLIC, ROBOTS,
-    SEAL_SOCKET, SKIP, SOCKET, TLS_BY, TOKEN, TSV, UNTIL, URL, WordArgument,
+    HTTPS, HTTPS_PAGES, JOURNAL, JOURNAL_OF_SHIFT, JOURNAL_SYNC, KEEP_ALIVE, NOT_TO, NOTES, PUBLIC,
+    ROBOTS, SEAL_SOCKET, SKIP, SOCKET, TLS_BY, TOKEN, TSV, UNTIL, URL, WordArgument,
 };
 use std::alloc::{AllocError, Global};
 
@@ -66,6 +66,7 @@ const SHIFT: SubcommandArguments = SubcommandArguments {
         Argument::Number(READ),
         Argument::Number(FETCH),
         Argument::Number(RETRY_CLOSED),
+        Argument::Word(KEEP_ALIVE),
         Argument::Word(PUBLIC),
         Argument::Word(NOT_TO),
         Argument::Word(TLS_BY),
@@ -105,6 +106,7 @@ const SERVE: SubcommandArguments = SubcommandArguments {
         Argument::Number(READ),
         Argument::Number(FETCH),
         Argument::Number(RETRY_CLOSED),
+        Argument::Word(KEEP_ALIVE),
         Argument::Number(TEXTS),
         Argument::Number(PAGE_LIMIT),
         Argument::Word(PUBLIC),

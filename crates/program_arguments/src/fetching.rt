@@ -2,14 +2,14 @@
 //! See docs/crawlgate.1.md.
 ghost use Rattle.std.specs.Prelude.{IfOk, map};
 ghost use Rattle.clap.specs.Words.{found_of};
-ghost use Rattle.program_arguments.specs.Options.{AreForFetching, AreFetchingOf, IsReachOf};
+ghost use Rattle.program_arguments.specs.Options.{AreForFetching, AreFetchingOf, ArePageConnectionsOf, IsReachOf};
 ghost use Rattle.program_arguments.specs.Blocks.{AreBlocks, AreBlocksOf};
 
 use crate::contact::contact_of;
 use crate::journal_options::{journal_of, sync_of};
 use crate::number_options::{JOURNAL_ROOM, RETRY_CLOSED};
 use crate::numbers::bound_of;
-use crate::subcommand::{Contact, JournalOptions};
+use crate::subcommand::{Contact, JournalOptions, PageConnections};
 use crate::tls::tls_by_of;
 use crate::word_fault::WordFault;
 use clap::ArgMatches;
@@ -17,8 +17,8 @@ use http_client::{AddressBlock, Reach};
 use std::alloc::Global;
 use std::net::SocketAddr;
 
-/// What fetches reach, by which program, whom they name, how long a network fault keeps a site closed, and where
-/// what is decided is kept.
+/// What fetches reach, by which program, whom they name, how long a network fault keeps a site closed, over which
+/// connections pages are fetched, and where what is decided is kept.
 #[derive(Drop)]
 pub(crate) struct Fetching {
     pub(crate) reach: Reach,
@@ -26,6 +26,7 @@ pub(crate) struct Fetching {
     pub(crate) tls_by: Option<SocketAddr>,
     pub(crate) contact: Contact,
     pub(crate) retry_closed: Option<u64>,
+    pub(crate) page_connections: PageConnections,
     pub(crate) journal: Option<JournalOptions>,
 }
 
@@ -51,6 +52,7 @@ pub(crate) fn fetching_of(alloc: Global, matches: &ArgMatches<'_>) -> Result<Fet
         tls_by,
         contact,
         retry_closed,
+        page_connections: page_connections_of(matches),
         journal: journal_of(alloc, sync, room, matches)?,
     })
 }
@@ -62,6 +64,16 @@ fn reach_of(matches: &ArgMatches<'_>) -> Reach
         Reach::PublicOnly
     } else {
         Reach::Anywhere
+    }
+}
+
+fn page_connections_of(matches: &ArgMatches<'_>) -> PageConnections
+    ensures { ArePageConnectionsOf (found_of matches.now) result }
+{
+    if matches.get_flag("keep-alive") {
+        PageConnections::Kept
+    } else {
+        PageConnections::Single
     }
 }
 

@@ -23,7 +23,7 @@ mod words;
 
 pub use subcommand::{
     Ahead, BadJobs, CheckDetail, CheckOptions, CheckedText, CheckedUrls, ClientFields, Contact,
-    HttpOptions, JournalOptions, ListenAddress, Notes, ReplayOptions, RetryAfter, ServeOptions,
-    ShiftOptions, ShiftOutput, Subcommand,
+    HttpOptions, JournalOptions, ListenAddress, Notes, PageConnections, ReplayOptions, RetryAfter,
+    ServeOptions, ShiftOptions, ShiftOutput, Subcommand,
 };
 pub use words::options;

@@ -67,6 +67,8 @@ pub struct ShiftOptions {
     /// For how many seconds, from 60 to 86,400, a network fault keeps a site closed; without them for its
     /// answer's life.
     pub retry_closed: Option<u64>,
+    /// Over which connections pages are fetched.
+    pub page_connections: PageConnections,
     pub told: ShiftOutput,
     pub bad_jobs: BadJobs,
     /// The pipe, if any: the shift ends early once no process holds it open for writing.
@@ -138,6 +140,15 @@ pub struct JournalOptions {
     pub room: Option<u64>,
 }
 
+/// Over which connections pages are fetched. A robots.txt always has one of its own.
+#[derive(Clone, Copy, Debug, PartialEq, Eq)]
+pub enum PageConnections {
+    /// Each page over one of its own.
+    Single,
+    /// Over one that stays open for the next page of the same scheme, host and port, if the site lets it.
+    Kept,
+}
+
 /// Whom a site may write to about a crawl.
 #[derive(Drop)]
 pub enum Contact {
@@ -184,6 +195,8 @@ pub struct ServeOptions {
     /// For how many seconds, from 60 to 86,400, a network fault keeps a site closed; without them for its
     /// answer's life.
     pub retry_closed: Option<u64>,
+    /// Over which connections pages are fetched.
+    pub page_connections: PageConnections,
     /// How many octets of robots texts are kept together, if that is bounded.
     pub texts: Option<u64>,
     /// How many octets of a page are read at most, from 1 to 67,108,864.

@@ -128,6 +128,16 @@ pub(crate) const PUBLIC: WordArgument = WordArgument {
     needs: &[],
 };
 
+/// Whether connections to sites stay open.
+pub(crate) const KEEP_ALIVE: WordArgument = WordArgument {
+    name: "keep-alive",
+    form: WordForm::Flag,
+    values: &[],
+    about: "Keep a connection to a site open for its next page, if the site lets it",
+    conflicts: &[],
+    needs: &[],
+};
+
 /// The addresses that fetches never reach.
 pub(crate) const NOT_TO: WordArgument = WordArgument {
     name: "not-to",

@@ -1,6 +1,6 @@
 -- Sorted keys have sorted places.
 -- Used by `in_order`.
-use Rattle.std.proofs.Common.{◌≡◌, ◌⊎◌, inl, inr, ⊎_elim, ℕ, zero, suc, ◌+◌, ◌*◌, ◌<◌, ◌≤◌, min, All, List, [], ◌∷◌, length, map, get_or, refl, sym, ap, ◌∙◌, arith}
+use Rattle.std.proofs.Common.{◌≡◌, ◌≢◌, ◌⊎◌, inl, inr, ⊎_elim, ℕ, zero, suc, ◌+◌, ◌*◌, ◌<◌, ◌≤◌, min, All, List, [], ◌∷◌, length, map, get_or, refl, sym, ap, ◌∙◌, arith}
 use Rattle.std.specs.List.Sorted.{IsSortedBy}
 use Rattle.std.specs.declared.cmp.Ordering.{Ordering}
 use Rattle.std.specs.declared.cmp.Ordering.TheVariants.{Less, Equal, Greater}
@@ -13,7 +13,7 @@ use Rattle.std.proofs.lemmas.Cmp.{back_total, nat_cmp_total, nat_list_cmp_total,
 use Rattle.std.proofs.lemmas.List.{get_or-map, length-map}
 use Rattle.std.proofs.lemmas.List.Elements.{All-get_or}
 use Rattle.robots_verdict.specs.declared.keys.Key.{Key}
-use Rattle.robots_verdict.specs.Keys.{compare_keys, if_long, IsKeyOf, number}
+use Rattle.robots_verdict.specs.Keys.{compare_alike, compare_keys, compare_long, if_long, IsKeyOf, number}
 use Rattle.robots_verdict.specs.Placed.{Placed}
 use Rattle.robots_verdict.specs.Rows.{row_at}
 use Rattle.robots_verdict.specs.Search.{compare_plain, IsPlainOrder}
@@ -137,3 +137,28 @@ places_rise rows (first ∷ keys) known sorted k d low within =
     (λ i. is_lt (compare_plain rows (get_or-map place all (k + 1) first d next i) (get_or-map place all k first d here i)))
     ∙ ap is_lt (sym (same_order rows (get_or all (k + 1) first) (get_or all k first) (All-get_or (IsKeyOf rows) all (k + 1) first next known) (All-get_or (IsKeyOf rows) all k first here known)))
     ∙ sorted k first low next
+
+module _ (rows : List Placed) (one other : Key) where
+  -- the order of the patterns that the keys do not hold, and of equal ones the stronger last
+  abbrev behind_cuts : Ordering
+  behind_cuts = ordering_then (slice_cmp nat_cmp (if_long rows one) (if_long rows other)) (nat_cmp other.place one.place)
+
+  pub unequal_cuts : one.cut ≢ other.cut → nat_cmp one.cut other.cut ≡ compare_alike rows one other
+  unequal_cuts differ = elim (cases_order one.cut other.cut) [
+    | inl equal ↦ absurd (differ equal)
+    | inr (inl less) ↦ is_less one.cut other.cut less ∙ sym (ap (λ (o : Ordering). ordering_then o behind_cuts) (is_less one.cut other.cut less))
+    | inr (inr more) ↦ is_greater one.cut other.cut more ∙ sym (ap (λ (o : Ordering). ordering_then o behind_cuts) (is_greater one.cut other.cut more))
+  ]
+
+  module _ (same : one.cut ≡ other.cut) where
+    pub equal_long : 16 < one.cut → compare_long rows one other ≡ compare_alike rows one other
+    equal_long many =
+        let left : if_long rows one ≡ (row_at rows one.place).form = ap (λ b. if b then (row_at rows one.place).form else []) (lt-ltb 16 one.cut many) in
+        let right : if_long rows other ≡ (row_at rows other.place).form = ap (λ b. if b then (row_at rows other.place).form else []) (lt-ltb 16 other.cut (omega (arith, many, same))) in
+        sym (λ i. ordering_then (is_equal one.cut other.cut same i) (ordering_then (slice_cmp nat_cmp (left i) (right i)) (nat_cmp other.place one.place)))
+
+    pub equal_short : one.cut ≤ 16 → nat_cmp other.place one.place ≡ compare_alike rows one other
+    equal_short few =
+        let left : if_long rows one ≡ [] = ap (λ b. if b then (row_at rows one.place).form else []) (le-ltb 16 one.cut few) in
+        let right : if_long rows other ≡ [] = ap (λ b. if b then (row_at rows other.place).form else []) (le-ltb 16 other.cut (omega (arith, few, same))) in
+        sym (λ i. ordering_then (is_equal one.cut other.cut same i) (ordering_then (slice_cmp nat_cmp (left i) (right i)) (nat_cmp other.place one.place)))

@@ -24,6 +24,12 @@ pub record IsKeyOf (rows : List Placed) (key : Key) : Type 0 where
 abbrev pub if_long : List Placed → Key → List ℕ
 if_long rows key = if nat_lt 16 key.cut then (row_at rows key.place).form else []
 
+-- the order of long patterns, of equal ones the stronger last
+abbrev pub compare_long : List Placed → Key → Key → Ordering
+compare_long rows one other =
+    ordering_then (slice_cmp nat_cmp (row_at rows one.place).form (row_at rows other.place).form)
+    (nat_cmp other.place one.place)
+
 -- the order of keys with equal numbers: by length up to 17, by pattern if longer, and of equal ones the stronger last
 abbrev pub compare_alike : List Placed → Key → Key → Ordering
 compare_alike rows one other =

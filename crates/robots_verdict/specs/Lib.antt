@@ -5,6 +5,7 @@ pub mod Heads
 pub mod Index
 pub mod Kept
 pub mod Keys
+pub mod Parents
 pub mod Placed
 pub mod Rewritten
 pub mod Rows

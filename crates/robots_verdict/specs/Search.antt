@@ -85,13 +85,12 @@ pub record ArePlaces (rows : List Placed) (plain : Bool) (places : List ℕ) (co
 abbrev pub groups_at : List Placed → List ℕ → List ℕ
 groups_at rows places = map (λ place. (row_at rows place).group) places
 
--- the plain places sorted by key, each with its group and parent
-pub record IsPlainIndex (rows : List Placed) (places groups : List ℕ) (parents : List (Option ℕ)) : Type 0 where
+-- the plain places sorted by key, each with its parent
+pub record IsPlainIndex (rows : List Placed) (places : List ℕ) (parents : List (Option ℕ)) : Type 0 where
   pub few : length places ≤ text_limit
   pub are : (place : ℕ)
       → Contains places place ↔ ((place < length rows) × (is_plain_pattern (row_at rows place).form ≡ true))
   pub rise : IsPlainOrder rows places
-  pub groups_are : groups ≡ groups_at rows places
   pub known : length parents ≡ length places
   pub parents_are : AreParents rows places parents (length places)
 
@@ -144,5 +143,5 @@ IsPassed rows places group path start index =
 
 -- both lists of places are the rows'
 pub record IsSearchable (rows : List Placed) (ranks : RankedRows) : Type 0 where
-  pub plain : IsPlainIndex rows ranks.plain.places.items ranks.plain.groups.items ranks.plain.parents.items
+  pub plain : IsPlainIndex rows ranks.plain.places.items ranks.plain.parents.items
   pub others : IsOtherIndex rows ranks.others.places.items ranks.others.groups.items

@@ -66,8 +66,8 @@ fn take(
     item: GroupedRecord<'_>,
 ) -> Result<(), AllocError>
     requires stands { Contains (numbered_records normal.now) (numbered_of (grouped_seen item)) }
-    requires octets { rows.old.octets + 3 * value_octets (kind_seen item.kind) < 2 ^ 32 }
-    requires numbers { (item.line < 2 ^ 32) × (item.group < 2 ^ 32) }
+    requires octets { rows.old.octets + 3 * value_octets (kind_seen item.kind) < 2 ^ 24 }
+    requires numbers { (item.line < 2 ^ 24) × (item.group < 2 ^ 24) }
     ensures rows { IfOk result (λ _. rows.new.rows
         ≡ rows.old.rows ++ placed_at item.entry.group item.entry.line (kind_seen item.entry.kind)) }
     ensures octets { IfOk result (λ _. rows.new.octets

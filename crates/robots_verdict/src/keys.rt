@@ -3,7 +3,7 @@
 ghost use Rattle.std.specs.Prelude.{◌≡◌, All, drop, IfOk, length, map, min};
 ghost use Rattle.std.specs.List.Sorted.{IsPermutation};
 ghost use Rattle.path_pattern.specs.Texts.{AreOctets, spelled_number};
-ghost use Rattle.robots_verdict.specs.Keys.{compare_alike, compare_keys, compare_patterns, if_long, IsKeyOf, number};
+ghost use Rattle.robots_verdict.specs.Keys.{compare_alike, compare_keys, compare_long, compare_patterns, IsKeyOf, number};
 ghost use Rattle.robots_verdict.specs.Search.{IsPlainOrder};
 
 use crate::rows::Rows;
@@ -106,23 +106,23 @@ fn compare_patterns(rows: &Rows, one: &Key, other: &Key) -> Ordering
 fn compare_alike(rows: &Rows, one: &Key, other: &Key) -> Ordering
     ensures { result ≡ compare_alike rows.now.rows one.now other.now }
 {
-    match one.cut.cmp(&other.cut) {
-        Ordering::Equal => compare_texts(if_long(rows, one), if_long(rows, other)).then(
-            other.place.cmp(&one.place),
-        ),
-        unequal => unequal,
+    if one.cut != other.cut {
+        one.cut.cmp(&other.cut)
+    } else if one.cut > 16 {
+        compare_long(rows, one, other)
+    } else {
+        other.place.cmp(&one.place)
     }
 }
 
-// The pattern if its key does not hold it, and nothing if it does.
-fn if_long<'r>(rows: &'r Rows, key: &Key) -> &'r [u8]
-    ensures { result.now ≡ if_long rows.now.rows key.now }
+fn compare_long(rows: &Rows, one: &Key, other: &Key) -> Ordering
+    ensures { result ≡ compare_long rows.now.rows one.now other.now }
 {
-    if key.cut > 16 {
-        rows.form(key.place as usize)
-    } else {
-        &[]
-    }
+    compare_texts(
+        rows.form(one.place as usize),
+        rows.form(other.place as usize),
+    )
+    .then(other.place.cmp(&one.place))
 }
 
 fn number(key: &Key) -> u128

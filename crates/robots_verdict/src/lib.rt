@@ -10,6 +10,7 @@ mod keys;
 pub mod laws;
 mod normal_text;
 mod others;
+mod parent;
 mod places;
 mod plain;
 mod policy;
@@ -19,6 +20,7 @@ mod rows;
 mod rule_row;
 mod rules;
 mod said;
+mod three_octets;
 mod weight;
 
 pub use answer::{Answer, Closure, Opening};

@@ -1,10 +1,12 @@
 //! A robots text with the normal forms of its patterns, and the verdict by its lines.
 //! RFC 9309, section 2.2.2.
-ghost use Rattle.std.specs.Prelude.{◌≡◌, Contains, IfOk};
+ghost use Rattle.std.specs.Prelude.{◌≡◌, Contains, IfOk, MatchOption};
 ghost use Rattle.path_normal.specs.Normal.{normal_pattern};
+ghost use Rattle.robots_text.specs.Grouped.{grouped_records};
 ghost use Rattle.robots_text.specs.Groups.{record_ruled};
 ghost use Rattle.robots_text.specs.Records.{numbered_records};
 ghost use Rattle.robots_text.specs.Walk.{rule_seen};
+ghost use Rattle.robots_verdict.specs.Rewritten.{HasForm, HasNoForm, rewritten_in};
 ghost use Rattle.robots_verdict.specs.Strongest.{IsBest};
 
 use crate::rewritten::Rewritten;
@@ -12,13 +14,15 @@ use crate::weight::{Weight, stronger};
 use path_pattern::{Path, matches};
 use robots_text::{RobotsText, RuleLine, Token};
 use std::alloc::{AllocError, Global};
+use std::boxed::Box;
 use std::marker::Model;
 
 /// A text, and the normal forms of the patterns that are written otherwise.
 #[derive(Drop)]
 pub(crate) struct NormalText {
     text: RobotsText,
-    rewritten: Rewritten,
+    // In its own allocation: most texts have none.
+    rewritten: Option<Box<Rewritten>>,
 }
 
 impl Model for NormalText {
@@ -29,14 +33,16 @@ impl Model for NormalText {
 
     ghost coded = { coded_list coded_ℕ };
 
-    ghost use Rattle.std.specs.Prelude.{◌≡◌};
+    ghost use Rattle.std.specs.Prelude.{◌≡◌, [], MatchOption, box_value};
     ghost use Rattle.robots_text.specs.Grouped.{grouped_records};
     ghost use Rattle.robots_verdict.specs.Rewritten.{rewritten_in};
 
     ghost view = { λ normal. normal.text };
 
-    ghost invariant = { λ normal. normal.rewritten.of_lines
-        ≡ rewritten_in (grouped_records normal.text) };
+    ghost invariant = { λ normal. MatchOption normal.rewritten
+        (rewritten_in (grouped_records normal.text) ≡ [])
+        (λ rewritten. (box_value rewritten).of_lines
+        ≡ rewritten_in (grouped_records normal.text)) };
 }
 
 impl NormalText {
@@ -44,7 +50,16 @@ impl NormalText {
         ensures { IfOk result (λ normal. normal ≡ text) }
     {
         let rewritten = Rewritten::of(alloc, &text)?;
-        Ok(NormalText { text, rewritten })
+        if rewritten.is_empty() {
+            return Ok(NormalText {
+                text,
+                rewritten: None,
+            });
+        }
+        Ok(NormalText {
+            text,
+            rewritten: Some(Box::new(alloc, rewritten)?),
+        })
     }
 
     pub(crate) fn text(&self) -> &RobotsText
@@ -81,9 +96,20 @@ impl NormalText {
         requires { Contains (numbered_records self.now) (record_ruled (rule_seen rule)) }
         ensures { result.now ≡ normal_pattern rule.entry.pattern.now }
     {
-        match self.rewritten.form_near(rule.line, near) {
+        match self.rewritten_form(rule.line, near) {
             Some(form) => form,
             None => rule.pattern,
+        }
+    }
+
+    fn rewritten_form(&self, line: u64, near: &mut usize) -> Option<&[u8]>
+        ensures { MatchOption result
+            (HasNoForm (rewritten_in (grouped_records self.now)) line)
+            (λ octets. HasForm (rewritten_in (grouped_records self.now)) line octets.now) }
+    {
+        match &self.rewritten {
+            Some(rewritten) => rewritten.form_near(line, near),
+            None => None,
         }
     }
 }

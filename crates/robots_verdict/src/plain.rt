@@ -6,11 +6,11 @@ ghost use Rattle.std.specs.Ordering.{is_gt, is_lt, nat_cmp};
 ghost use Rattle.std.specs.Cmp.Lexicographic.{slice_cmp};
 ghost use Rattle.robots_text.specs.Lines.{text_limit};
 ghost use Rattle.robots_verdict.specs.Index.{FindsLeast};
-ghost use Rattle.robots_verdict.specs.Rows.{is_row_above, row_at};
-ghost use Rattle.robots_verdict.specs.Search.{AreParents, ArePlaces, common, groups_at, IsCountOf, IsCut, IsLastBegun, IsPlainHit, IsPlainIndex, IsPlainOrder, key_at};
+ghost use Rattle.robots_verdict.specs.Rows.{is_row_above};
+ghost use Rattle.robots_verdict.specs.Search.{AreParents, ArePlaces, common, IsCountOf, IsCut, IsLastBegun, IsPlainHit, IsPlainIndex, IsPlainOrder, key, key_at};
 
 use crate::keys::in_order;
-use crate::places::groups_at;
+use crate::parent::Parent;
 use crate::rows::Rows;
 use path_pattern::compare_texts;
 use std::alloc::{AllocError, Global};
@@ -20,10 +20,8 @@ use std::cmp::Ordering;
 #[derive(Drop)]
 pub(crate) struct Plain {
     places: Vec<u32>,
-    // The groups of the places: a search rarely looks at the rows.
-    groups: Vec<u32>,
     // The index of the longest other one that is its prefix, in the same group.
-    parents: Vec<Option<u32>>,
+    parents: Vec<Parent>,
 }
 
 impl Plain {
@@ -32,33 +30,27 @@ impl Plain {
         requires few { length rows.now.rows ≤ text_limit }
         requires plain { ArePlaces rows.now.rows true places.items (length rows.now.rows) }
         ensures { IfOk result (λ plain.
-            IsPlainIndex rows.now.rows plain.places.items plain.groups.items plain.parents.items) }
+            IsPlainIndex rows.now.rows plain.places.items plain.parents.items) }
     {
         let places = in_order(alloc, rows, places)?;
-        let groups = groups_at(alloc, rows, places.as_slice())?;
         let parents = parents_of(alloc, rows, places.as_slice())?;
-        Ok(Plain {
-            places,
-            groups,
-            parents,
-        })
+        Ok(Plain { places, parents })
     }
 
     /// The place of the group's strongest plain row that is a prefix of the path.
     pub(crate) fn least(&self, rows: &Rows, group: u32, path: &[u8]) -> Option<usize>
         requires falling { IsSortedBy is_row_above rows.now.rows }
-        requires index { IsPlainIndex rows.now.rows self.now.places.items self.now.groups.items
-            self.now.parents.items }
+        requires index { IsPlainIndex rows.now.rows self.now.places.items self.now.parents.items }
         ensures { FindsLeast (IsPlainHit rows.now.rows group path.now) result }
     {
         let places = self.places.as_slice();
-        let count = count_to(rows, places, self.groups.as_slice(), group, path);
+        let count = count_to(rows, places, group, path);
         let last = last_begun(rows, places, self.parents.as_slice(), count, group, path)?;
         Some(self.places[last as usize] as usize)
     }
 }
 
-fn parents_of(alloc: Global, rows: &Rows, places: &[u32]) -> Result<Vec<Option<u32>>, AllocError>
+fn parents_of(alloc: Global, rows: &Rows, places: &[u32]) -> Result<Vec<Parent>, AllocError>
     requires few { length places.now ≤ text_limit }
     requires rise { IsPlainOrder rows.now.rows places.now }
     ensures known { IfOk result (λ parents. length parents.items ≡ length places.now) }
@@ -76,21 +68,20 @@ fn parents_of(alloc: Global, rows: &Rows, places: &[u32]) -> Result<Vec<Option<u
             rows.group(place),
             rows.form(place),
         );
-        parents.push(parent)?;
+        parents.push(Parent::of(parent))?;
     }
     Ok(parents)
 }
 
-fn count_to(rows: &Rows, places: &[u32], groups: &[u32], group: u32, path: &[u8]) -> usize
+fn count_to(rows: &Rows, places: &[u32], group: u32, path: &[u8]) -> usize
     requires rise { IsPlainOrder rows.now.rows places.now }
-    requires groups { groups.now ≡ groups_at rows.now.rows places.now }
     ensures { IsCut rows.now.rows places.now (group ∷ path.now) result }
 {
     let mut low = 0;
     let mut high = places.len();
     while low < high {
         let middle = low + (high - low) / 2;
-        if is_behind(rows, groups[middle], places[middle], group, path) {
+        if is_behind(rows, places[middle], group, path) {
             high = middle;
         } else {
             low = middle + 1;
@@ -104,7 +95,7 @@ fn count_to(rows: &Rows, places: &[u32], groups: &[u32], group: u32, path: &[u8]
 fn last_begun(
     rows: &Rows,
     places: &[u32],
-    parents: &[Option<u32>],
+    parents: &[Parent],
     count: usize,
     group: u32,
     path: &[u8],
@@ -129,7 +120,7 @@ fn last_begun(
     let common = common(rows.form(place), path);
     let mut last = top;
     while rows.form(places[last] as usize).len() > common {
-        let Some(parent) = parents[last] else {
+        let Some(parent) = parents[last].as_index() else {
             return None;
         };
         last = parent as usize;
@@ -157,18 +148,16 @@ fn common(one: &[u8], other: &[u8]) -> usize
     count
 }
 
-fn is_behind(rows: &Rows, of: u32, place: u32, group: u32, path: &[u8]) -> bool
-    ensures { result ≡ is_gt (slice_cmp nat_cmp (of ∷ (row_at rows.now.rows place).form)
-        (group ∷ path.now)) }
+fn is_behind(rows: &Rows, place: u32, group: u32, path: &[u8]) -> bool
+    ensures { result ≡ is_gt (slice_cmp nat_cmp (key rows.now.rows place) (group ∷ path.now)) }
 {
-    compare_key(rows, of, place, group, path).is_gt()
+    compare_key(rows, place, group, path).is_gt()
 }
 
-fn compare_key(rows: &Rows, of: u32, place: u32, group: u32, text: &[u8]) -> Ordering
-    ensures { result ≡ slice_cmp nat_cmp (of ∷ (row_at rows.now.rows place).form)
-        (group ∷ text.now) }
+fn compare_key(rows: &Rows, place: u32, group: u32, text: &[u8]) -> Ordering
+    ensures { result ≡ slice_cmp nat_cmp (key rows.now.rows place) (group ∷ text.now) }
 {
-    match of.cmp(&group) {
+    match rows.group(place as usize).cmp(&group) {
         Ordering::Equal => compare_texts(rows.form(place as usize), text),
         unequal => unequal,
     }

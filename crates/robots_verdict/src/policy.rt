@@ -15,12 +15,13 @@ use memchr::memchr_iter;
 use path_pattern::{Path, SuffixArray, empty_room};
 use robots_text::{RobotsText, Token};
 use std::alloc::{AllocError, Global};
+use std::boxed::Box;
 use std::marker::Model;
 use std::sync::Arc;
 use std::sync::atomic::{AtomicU64, Ordering};
 
 // An index is made after this many walks over the text. It takes as long as one or two walks, but up to
-// four times the text's memory, and most sites are asked less often.
+// three times the text's memory, and most sites are asked less often.
 const WALKS: u64 = 16;
 
 // The longest text that is walked in about ten microseconds, and how many patterns with special characters
@@ -44,7 +45,8 @@ const MANY_STARS: usize = 1_000;
 /// A robots text, perhaps indexed. Without an index, verdicts walk over the text.
 pub struct Policy {
     text: Arc<NormalText>,
-    index: Option<Index>,
+    // In its own allocation: most policies have none.
+    index: Option<Box<Index>>,
     // How many verdicts walked over the text.
     walks: AtomicU64,
 }
@@ -61,7 +63,7 @@ impl Drop for Policy {
 }
 
 impl Model for Policy {
-    ghost use Rattle.std.specs.Prelude.{IfSome, List, ℕ};
+    ghost use Rattle.std.specs.Prelude.{IfSome, List, ℕ, box_value};
     ghost use Rattle.std.specs.Coded.{coded_list, coded_ℕ};
 
     ghost Value = { List ℕ };
@@ -73,7 +75,8 @@ impl Model for Policy {
 
     ghost view = { λ policy. arc_value policy.text };
 
-    ghost invariant = { λ policy. IfSome policy.index (IsIndexOf (arc_value policy.text)) };
+    ghost invariant = { λ policy.
+        IfSome policy.index (λ index. IsIndexOf (arc_value policy.text) (box_value index)) };
 }
 
 impl Policy {
@@ -93,7 +96,7 @@ impl Policy {
     pub fn indexed(&self, alloc: Global) -> Result<Policy, AllocError>
         ensures { IfOk result (λ policy. policy ≡ self.now) }
     {
-        let index = Index::of(alloc, &self.text)?;
+        let index = Box::new(alloc, Index::of(alloc, &self.text)?)?;
         Ok(Policy {
             text: Arc::try_clone(&self.text)?,
             index: Some(index),

@@ -1,6 +1,6 @@
 //! The rule lines of a text whose patterns are not in normal form, with their normal forms.
 //! RFC 9309, section 2.2.2.
-ghost use Rattle.std.specs.Prelude.{◌≡◌, ◌+◌, ◌*◌, ◌^◌, ◌∷◌, ◌≤◌, ◌<◌, ◌++◌, [], IfOk, IsTrue, length, map, MatchOption};
+ghost use Rattle.std.specs.Prelude.{◌≡◌, ◌↔◌, ◌+◌, ◌*◌, ◌^◌, ◌∷◌, ◌≤◌, ◌<◌, ◌++◌, [], IfOk, IsTrue, length, map, MatchOption};
 ghost use Rattle.std.specs.List.Sorted.{IsNonDecreasing};
 ghost use Rattle.robots_text.specs.Grouped.{grouped_records, value_octets};
 ghost use Rattle.robots_text.specs.Records.{kind_seen};
@@ -84,6 +84,13 @@ impl Rewritten {
     {
         self.octets.shrink_to_fit();
         self.forms.shrink_to_fit();
+    }
+
+    /// Whether there are none.
+    pub(crate) fn is_empty(&self) -> bool
+        ensures { IsTrue result ↔ (self.now.of_lines ≡ []) }
+    {
+        self.forms.is_empty()
     }
 
     /// The normal form of this line's pattern, if written otherwise. Tries this place first and sets it to

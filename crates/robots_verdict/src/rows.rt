@@ -8,6 +8,7 @@ ghost use Rattle.robots_verdict.specs.Weights.{falling};
 
 use crate::decision::{Allowed, Verdict};
 use crate::rule_row::RuleRow;
+use crate::three_octets::ThreeOctets;
 use crate::weight::Weight;
 use robots_text::RuleKind;
 use std::alloc::{AllocError, Global};
@@ -55,7 +56,8 @@ impl Rows {
         kind: RuleKind,
         form: &[u8],
     ) -> Result<(), AllocError>
-        requires { self.old.octets + length form.now < 2 ^ 32 }
+        requires { (self.old.octets + length form.now < 2 ^ 24)
+            × (group < 2 ^ 24) × (line < 2 ^ 24) }
         ensures row { IfOk result (λ _. self.new.rows ≡ self.old.rows
             ++ record { group = group; line = line; kind = kind; form = form.now } ∷ []) }
         ensures octets { IfOk result (λ _. self.new.octets ≡ self.old.octets + length form.now) }
@@ -63,10 +65,10 @@ impl Rows {
         let start = self.octets.len();
         self.octets.extend_from_slice(form)?;
         self.rows.push(RuleRow {
-            start: start as u32,
-            len: form.len() as u32,
-            line,
-            group,
+            start: ThreeOctets::of(start as u32),
+            len: ThreeOctets::of(form.len() as u32),
+            line: ThreeOctets::of(line),
+            group: ThreeOctets::of(group),
             kind,
         })?;
         Ok(())
@@ -102,7 +104,7 @@ impl Rows {
         ensures { result ≡ (row_at self.now.rows place).group }
     {
         if place < self.rows.len() {
-            self.rows[place].group
+            self.rows[place].group.number()
         } else {
             0
         }
@@ -113,8 +115,12 @@ impl Rows {
         ensures { result.now ≡ (row_at self.now.rows place).form }
     {
         if place < self.rows.len() {
-            let row = self.rows[place];
-            part(self.octets.as_slice(), row.start as usize, row.len as usize)
+            let row = &self.rows[place];
+            part(
+                self.octets.as_slice(),
+                row.start.number() as usize,
+                row.len.number() as usize,
+            )
         } else {
             &[]
         }
@@ -128,10 +134,11 @@ impl Rows {
         let Some(place) = first else {
             return Verdict::Allow(Allowed::NoRule);
         };
-        let row = self.rows[place];
+        let row = &self.rows[place];
+        let line = u64::from(row.line.number());
         match row.kind {
-            RuleKind::Allow => Verdict::Allow(Allowed::Line(u64::from(row.line))),
-            RuleKind::Disallow => Verdict::Deny(u64::from(row.line)),
+            RuleKind::Allow => Verdict::Allow(Allowed::Line(line)),
+            RuleKind::Disallow => Verdict::Deny(line),
         }
     }
 }
@@ -154,8 +161,8 @@ fn weight(row: &RuleRow) -> Weight
     ensures { result ≡ weight_kept row.now }
 {
     Weight {
-        octets: row.len as usize,
+        octets: row.len.number() as usize,
         kind: row.kind,
-        line: u64::from(row.line),
+        line: u64::from(row.line.number()),
     }
 }

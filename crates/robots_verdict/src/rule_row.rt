@@ -1,14 +1,15 @@
 //! A row of a policy: a rule line, whose pattern is among the octets of all patterns.
 //! Used by `Rows`.
 
+use crate::three_octets::ThreeOctets;
 use robots_text::RuleKind;
 
-/// A rule line: the location of its pattern in normal form, its kind, its line and its group.
-#[derive(Clone, Copy)]
+/// A rule line in 13 octets: the location of its pattern in normal form, its line, its group and its kind.
+#[derive(Drop)]
 pub(crate) struct RuleRow {
-    pub start: u32,
-    pub len: u32,
-    pub line: u32,
-    pub group: u32,
+    pub start: ThreeOctets,
+    pub len: ThreeOctets,
+    pub line: ThreeOctets,
+    pub group: ThreeOctets,
     pub kind: RuleKind,
 }

@@ -1,6 +1,7 @@
 //! Requests written, and responses read.
 
 mod chunks;
+mod endings;
 mod forwarded;
 mod freshness;
 mod limits;

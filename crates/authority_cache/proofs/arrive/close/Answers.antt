@@ -6,7 +6,7 @@ use Rattle.indexmap.specs.IndexMap.{set_value_at}
 use Rattle.authority_cache.specs.Sites.{said_site}
 use Rattle.authority_cache.proofs.EntryLaws.{entry-at, written-same}
 use Rattle.authority_cache.proofs.FoundLaws.{found_at, others_at, said_at, written_at}
-use Rattle.authority_cache.proofs.SiteLaws.{arrived-known, is_named}
+use Rattle.authority_cache.proofs.SiteLaws.{arrived-known, is_named, named-written}
 use Rattle.authority_cache.proofs.SweepLaws.{apart_from, but_written}
 use Rattle.authority_cache.proofs.arrive.close.Goals as goal
 
@@ -20,7 +20,8 @@ returns-in-Some-clause-reply c = λ limit e at.
     let found = found_at a es c.args.index e.1 v apart at (sym c.in-Some.ensures.value) in
     let wrote = written_at a es c.args.index e.1 w apart at in
     (arrived-known limit a c.args.turn c.args.answer es (set_value_at es c.args.index w) v w c.arrive.result
-    c.requires.all found wrote (λ b. ap (lookup (is_named b)) wrote ∙ others_at a b es v w found) c.arrive.ensures.turn c.arrive.ensures.ok c.arrive.ensures.err).0
+    c.requires.all found wrote (λ b. ap (lookup (is_named b)) wrote ∙ others_at a b es v w found) c.arrive.ensures.turn c.arrive.ensures.ok c.arrive.ensures.err
+    (named-written es c.args.index v w (sym c.in-Some.ensures.value) c.arrive.ensures.name c.requires.all.named)).0
 
 pub returns-in-Some-clause-known : goal.returns-in-Some-clause-known
 returns-in-Some-clause-known c =
@@ -34,7 +35,8 @@ returns-in-Some-clause-known c =
     let found = found_at a es c.args.index (said_site e.0.1) v apart at (sym c.in-Some.ensures.value) in
     let wrote = written_at a es c.args.index (said_site e.0.1) w apart at in
     (arrived-known 0 a c.args.turn c.args.answer es (set_value_at es c.args.index w) v w c.arrive.result
-    c.requires.all found wrote (λ b. ap (lookup (is_named b)) wrote ∙ others_at a b es v w found) c.arrive.ensures.turn c.arrive.ensures.ok c.arrive.ensures.err).1
+    c.requires.all found wrote (λ b. ap (lookup (is_named b)) wrote ∙ others_at a b es v w found) c.arrive.ensures.turn c.arrive.ensures.ok c.arrive.ensures.err
+    (named-written es c.args.index v w (sym c.in-Some.ensures.value) c.arrive.ensures.name c.requires.all.named)).1
 
 pub returns-in-Some-clause-others : goal.returns-in-Some-clause-others
 returns-in-Some-clause-others c = λ kept covered.

@@ -9,7 +9,7 @@ use Rattle.indexmap.specs.IndexMap.{set_value_at}
 use Rattle.authority_cache.specs.Kept.{known_in, said_entries}
 use Rattle.authority_cache.specs.Sites.{State, site_of}
 use Rattle.authority_cache.proofs.FoundLaws.{found_at, no_index, none_said, others_at, within, written_at}
-use Rattle.authority_cache.proofs.SiteLaws.{begun-known, begun-new, flying-known, is_named, known-new, known-written}
+use Rattle.authority_cache.proofs.SiteLaws.{begun-known, begun-new, flying-known, is_named, known-new, known-written, named-written}
 use Rattle.authority_cache.proofs.SweepLaws.{apart_from, covers_written}
 use Rattle.authority_cache.proofs.begin.open.Goals as goal
 
@@ -36,7 +36,7 @@ returns-in_default-clause-opened c =
 
 pub returns-in_default-clause-known : goal.returns-in_default-clause-known
 returns-in_default-clause-known c =
-    known-new c.args.authority.now c.args.flight c.args.sites.now.entries c.add.new.sites.entries c.add.result c.requires.all c.add.ensures.own c.add.ensures.ok c.add.ensures.same
+    known-new c.args.authority.now c.args.flight c.args.sites.now.entries c.add.new.sites.entries c.add.result c.requires.all c.add.ensures.named c.add.ensures.ok c.add.ensures.same
 
 pub returns-clause-opened : goal.returns-clause-opened
 returns-clause-opened c = λ limit.
@@ -48,7 +48,7 @@ returns-clause-opened c = λ limit.
     let at = subst (λ (o : Option ℕ). IfSome o (λ i. slice_get (said_entries es) i ≡ Some (a, site_of (known_in 0 es) a))) c.in-Some.is c.requires.found.some in
     let found = found_at a es c.in-Some.index (site_of (known_in 0 es) a) v apart at (sym c.in-Some-get_index_mut.ensures.value) in
     let wrote = written_at a es c.in-Some.index (site_of (known_in 0 es) a) w apart at in
-    begun-known limit a c.args.flight es (set_value_at es c.in-Some.index w) v w found wrote (λ b. ap (lookup (is_named b)) wrote ∙ others_at a b es v w found) c.begin.ensures
+    begun-known limit a c.args.flight es (set_value_at es c.in-Some.index w) v w found wrote (λ b. ap (lookup (is_named b)) wrote ∙ others_at a b es v w found) c.begin.ensures.begun
 
 pub returns-clause-known : goal.returns-clause-known
 returns-clause-known c =
@@ -59,7 +59,8 @@ returns-clause-known c =
     let apart = apart_from es c.in-Some-get_index_mut.ensures.unique in
     let at = subst (λ (o : Option ℕ). IfSome o (λ i. slice_get (said_entries es) i ≡ Some (a, site_of (known_in 0 es) a))) c.in-Some.is c.requires.found.some in
     let wrote = written_at a es c.in-Some.index (site_of (known_in 0 es) a) w apart at in
-    known-written a es (set_value_at es c.in-Some.index w) w c.requires.all wrote (flying-known c.args.flight v w c.begin.ensures)
+    known-written a es (set_value_at es c.in-Some.index w) w c.requires.all wrote (flying-known c.args.flight v w c.begin.ensures.begun)
+    (named-written es c.in-Some.index v w (sym c.in-Some-get_index_mut.ensures.value) c.begin.ensures.name c.requires.all.named)
 
 pub returns-clause-covered : goal.returns-clause-covered
 returns-clause-covered c = λ kept covered.
@@ -68,4 +69,4 @@ returns-clause-covered c = λ kept covered.
     let v = c.in-Some-get_index_mut.site.now in
     let at = subst (λ (o : Option ℕ). IfSome o (λ i. slice_get (said_entries es) i ≡ Some (a, site_of (known_in 0 es) a))) c.in-Some.is c.requires.found.some in
     let low = within es c.in-Some.index (a, site_of (known_in 0 es) a) at in
-    covers_written es c.in-Some.index v c.begin.new.self kept low (sym c.in-Some-get_index_mut.ensures.value) (ap (λ (s : State). s.standing) c.begin.ensures) covered
+    covers_written es c.in-Some.index v c.begin.new.self kept low (sym c.in-Some-get_index_mut.ensures.value) (ap (λ (s : State). s.standing) c.begin.ensures.begun) covered

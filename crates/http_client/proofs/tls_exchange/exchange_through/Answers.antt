@@ -3,4 +3,4 @@ use Rattle.http_client.proofs.Ends.{through_tells}
 use Rattle.http_client.proofs.tls_exchange.exchange_through.Goals as goal
 
 pub returns-clause-tells : goal.returns-clause-tells
-returns-clause-tells g c = through_tells _ _ _ _ _ _ _ _ _ _ _ _ c.exchange_with_header-given.ensures c.unless_ended.ensures
+returns-clause-tells g c = through_tells _ _ _ _ _ _ _ _ _ _ _ _ c.exchange_ending-given.ensures.exchanges c.unless_ended.ensures

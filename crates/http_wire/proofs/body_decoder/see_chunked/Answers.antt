@@ -12,5 +12,5 @@ returns-in-Bad-clause-err c =
     let new = c.look.new.self in
     let bytes = c.octets.result.now in
     subst (λ (t : List ℕ). Refuses Chunked now.limit (drop now.start t) BadChunk) c.octets.ensures.value
-    (bad_chunks now.limit now.start new.limit new.start bytes c.in_ok-look.ensures.bounds.limit c.in_ok-look.ensures.bounds.start
-    (rw c.in-Bad.is at c.in_ok-look.ensures.decodes))
+    (bad_chunks now.limit now.start new.limit new.start bytes c.in_ok-behind.ensures.bounds.limit c.in_ok-behind.ensures.bounds.start
+    (rw c.in-Bad.is at c.in_ok-behind.ensures.decodes))

@@ -8,7 +8,7 @@ use Rattle.robots_verdict.proofs.index.take.Goals as goal
 pub push-requires-in-Rule : goal.push-requires-in-Rule
 push-requires-in-Rule c =
     let small = form_small c.form-form.result.now c.in-Rule.pattern.now c.in-Rule.kind (kind_seen c.args.item.kind) c.form-form.ensures (ap kind_seen c.in-Rule.is) in
-    omega (arith, small, c.requires.octets)
+    (omega (arith, small, c.requires.octets), omega (arith, c.requires.numbers.1), omega (arith, c.requires.numbers.0))
 
 pub returns-in-Rule-clause-octets : goal.returns-in-Rule-clause-octets
 returns-in-Rule-clause-octets c =

@@ -4,8 +4,8 @@ use Rattle.robots_verdict.specs.Search.{key_at}
 use Rattle.robots_verdict.proofs.Chains.{IsNear}
 use Rattle.robots_verdict.proofs.plain.last_begun.Given as goal
 
-abbrev pub invariant-loop-parent : goal.invariant-loop-parent
-invariant-loop-parent l = IsNear l.rows.rows l.places l.count (l.group ∷ l.path) (key_at l.rows.rows l.places (l.count - 1)) l.last
+abbrev pub invariant-loop-last : goal.invariant-loop-last
+invariant-loop-last l = IsNear l.rows.rows l.places l.count (l.group ∷ l.path) (key_at l.rows.rows l.places (l.count - 1)) l.last
 
-abbrev pub decreases-loop-parent : goal.decreases-loop-parent
-decreases-loop-parent l = l.last
+abbrev pub decreases-loop-last : goal.decreases-loop-last
+decreases-loop-last l = l.last

@@ -1,8 +1,10 @@
--- The next key's parent is its last prefix before it.
-use Rattle.std.proofs.Common.{◌≡◌, ◌∷◌, ◌+◌, ◌<◌, false, List, ℕ, length, sym, ap, ◌∙◌, subst, arith, length-append, []}
-use Rattle.std.specs.Prelude.{Option}
+-- The next key's parent is its last prefix before it, and no index exceeds the limit.
+use Rattle.std.proofs.Common.{◌≡◌, ◌∷◌, ◌+◌, ◌<◌, ◌≤◌, false, List, ℕ, length, sym, ap, ◌∙◌, subst, arith, length-append, []}
+use Rattle.std.specs.Prelude.{Option, Some, None, IfSome}
 use Rattle.std.specs.Ordering.{is_lt, nat_cmp}
 use Rattle.std.specs.Cmp.Lexicographic.{slice_cmp}
+use Rattle.robots_text.specs.Lines.{text_limit}
+use Rattle.robots_verdict.specs.Placed.{Placed}
 use Rattle.robots_verdict.specs.Search.{AreParents, IsLastBegun, key_at}
 use Rattle.robots_verdict.proofs.Chains.{keys_rise, parents_pushed}
 use Rattle.robots_verdict.proofs.plain.parents_of.Goals as goal
@@ -16,15 +18,26 @@ last_begun-parent-requires-clause-behind c =
     subst (λ (text : List ℕ). (index : ℕ) → index < count → is_lt (slice_cmp nat_cmp text (key_at rows places index)) ≡ false) text
     (λ index less. keys_rise rows places c.requires.rise index count (omega (arith, less)) c.loop-index-test.true)
 
+within_limit : (rows : List Placed) (places : List ℕ) (count : ℕ) (text : List ℕ) (last : Option ℕ) → IsLastBegun rows places count text last → count ≤ text_limit →
+    IfSome last (λ index. index < text_limit)
+within_limit rows places count text None is few = tt
+within_limit rows places count text (Some last) is few = omega (arith, is.0, few)
+
+pub of-requires : goal.of-requires
+of-requires c =
+    within_limit c.args.rows.now.rows c.args.places.now c.loop-index.index (c.group.result ∷ c.form.result.now) c.last_begun-parent.result c.last_begun-parent.ensures
+    (omega (arith, c.loop-index-test.true, c.requires.few))
+
 pub loop-index-preserved : goal.loop-index-preserved
 loop-index-preserved c =
     let rows = c.args.rows.now.rows in
     let places = c.args.places.now in
     let count = c.loop-index.index in
     let parents = c.loop-index.parents.items in
-    let parent = c.last_begun-parent.result in
+    let parent : Option ℕ = c.of.result in
     let text : c.group.result ∷ c.form.result.now ≡ key_at rows places count = λ i. c.group.ensures i ∷ c.form.ensures i in
-    let is = subst (λ (text : List ℕ). IsLastBegun rows places count text parent) text c.last_begun-parent.ensures in (
+    let found = subst (λ (text : List ℕ). IsLastBegun rows places count text c.last_begun-parent.result) text c.last_begun-parent.ensures in
+    let is = subst (IsLastBegun rows places count (key_at rows places count)) (sym c.of.ensures) found in (
       ap length c.in_ok-push.ensures.items ∙ length-append parents (parent ∷ []) ∙ ap (λ (n : ℕ). n + 1) c.loop-index.invariant.0,
       subst (λ (all : List (Option ℕ)). AreParents rows places all (count + 1)) (sym c.in_ok-push.ensures.items)
           (parents_pushed rows places parents count parent c.loop-index.invariant.0 c.loop-index.invariant.1 is),

@@ -3,7 +3,7 @@
 
 use crate::tests::demand;
 use counted_io::FailAt;
-use http_wire::{FieldValue, ForwardedFields, write_get_with};
+use http_wire::{ConnectionEnding, FieldValue, ForwardedFields, write_get_with};
 use path_normal::PageUrl;
 use std::alloc::Global;
 use std::test::Fail;
@@ -89,7 +89,20 @@ fn hands_on_each_field_in_its_line(rt: HostRuntime) -> Result<(), Fail> {
             accept: FieldValue::of(media),
             accept_language: FieldValue::of(language),
         };
-        demand(writes(rt.alloc(), &page, &fields, lines), name)?;
+        demand(
+            writes(rt.alloc(), &page, &fields, ConnectionEnding::Close, lines),
+            name,
+        )?;
+        demand(
+            writes(
+                rt.alloc(),
+                &page,
+                &fields,
+                ConnectionEnding::KeepAlive,
+                lines,
+            ),
+            name,
+        )?;
     }
     Ok(())
 }
@@ -97,18 +110,29 @@ fn hands_on_each_field_in_its_line(rt: HostRuntime) -> Result<(), Fail> {
 const FRONT: &str = "GET / HTTP/1.1\r\nHost: a.example\r\nUser-Agent: crawlgate\r\n\
 Accept: */*\r\nAccept-Encoding: identity\r\n";
 
-const END: &str = "Connection: close\r\n\r\n";
-
-// Whether the request has these lines before the last one.
-fn writes(alloc: Global, page: &PageUrl, fields: &ForwardedFields<'_>, lines: &str) -> bool {
+// Whether the request has these lines before its end.
+fn writes(
+    alloc: Global,
+    page: &PageUrl,
+    fields: &ForwardedFields<'_>,
+    ending: ConnectionEnding,
+    lines: &str,
+) -> bool {
     let mut writer = FailAt::new(Vec::new(alloc), 1_000, None);
-    let written = write_get_with(&mut writer, page, "crawlgate", fields);
-    written.is_ok() && is_joined(writer.bytes(), lines)
+    let written = write_get_with(&mut writer, page, "crawlgate", fields, ending);
+    written.is_ok() && is_joined(writer.bytes(), lines, end_for(ending))
 }
 
-fn is_joined(octets: &[u8], lines: &str) -> bool {
+fn end_for(ending: ConnectionEnding) -> &'static str {
+    match ending {
+        ConnectionEnding::Close => "Connection: close\r\n\r\n",
+        ConnectionEnding::KeepAlive => "\r\n",
+    }
+}
+
+fn is_joined(octets: &[u8], lines: &str, end: &str) -> bool {
     octets
         .strip_prefix(FRONT.as_bytes())
         .and_then(|behind| behind.strip_prefix(lines.as_bytes()))
-        == Some(END.as_bytes())
+        == Some(end.as_bytes())
 }

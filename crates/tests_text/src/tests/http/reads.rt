@@ -117,7 +117,7 @@ fn has_body(reply: &HttpReply, status: u16, body: &str) -> bool {
     reply.status == status && reply.body.as_slice() == body.as_bytes()
 }
 
-fn octets_of(alloc: Global, head: &str, text: &str) -> Result<Vec<u8>, AllocError> {
+pub(super) fn octets_of(alloc: Global, head: &str, text: &str) -> Result<Vec<u8>, AllocError> {
     let mut octets = Vec::new(alloc);
     push_text(&mut octets, head)?;
     push_text(&mut octets, text)?;

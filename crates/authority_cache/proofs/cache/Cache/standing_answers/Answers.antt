@@ -1,30 +1,26 @@
 -- Each state has its answers listed once.
-use Rattle.std.proofs.Common.{◌≡◌, ℕ, ◌++◌, List, Some, filter, length, take, refl, sym, ap, subst, ◌∙◌, arith}
+use Rattle.std.proofs.Common.{◌≡◌, ℕ, ◌++◌, List, Some, filter, length, take, String, Global, string_bytes, refl, sym, ap, subst, ◌∙◌, arith}
 use Rattle.std.specs.Prelude.{slice_get}
 use Rattle.std.proofs.lemmas.List.{length-map, take_all}
-use Rattle.path_normal.specs.Authority.{IsAuthority}
+use Rattle.authority_cache.specs.declared.site.Site.{Site}
 use Rattle.authority_cache.specs.declared.standing_answer.StandingAnswer.{StandingAnswer}
 use Rattle.authority_cache.specs.Kept.{said_entry}
 use Rattle.authority_cache.specs.Lists.{is_answer_for, answers_in}
 use Rattle.authority_cache.specs.Sites.{AreApart, Known, State, said_site}
 use Rattle.authority_cache.proofs.FoundLaws.{said_at}
-use Rattle.authority_cache.proofs.ListedLaws.{all_of, listed, listed-more, named-at, other_answers, own_answers}
+use Rattle.authority_cache.proofs.ListedLaws.{all_of, listed, listed-more, other_answers, own_answers}
 use Rattle.authority_cache.proofs.SweepLaws.{apart_from}
 use Rattle.authority_cache.proofs.cache.Cache.standing_answers.Goals as goal
-
-pub push_answer-requires : goal.push_answer-requires
-push_answer-requires c =
-    subst IsAuthority (sym c.deref.ensures)
-    (named-at c.self.inside.sites.entries c.loop-index.index (c.in-Some.name.now, c.in-Some.site.now) (sym c.in-Some.ensures.entry) c.self.invariant.known.named)
 
 pub loop-index-preserved : goal.loop-index-preserved
 loop-index-preserved c =
     let i = c.loop-index.index in
-    let e : List ℕ × State = (c.deref.result.now, said_site c.in-Some.site.now) in
+    let e : List ℕ × State = (c.in-Some.site.now.name, said_site c.in-Some.site.now) in
+    let there : String Global × Site = (c.in-Some._name.now, c.in-Some.site.now) in
+    let name : string_bytes c.in-Some._name.now ≡ e.0 = sym (c.self.invariant.known.named i there (sym c.in-Some.ensures.entry)) in
     let at : slice_get c.args.self.now.sites i ≡ Some e =
     subst (λ (k : Known). slice_get k.sites i ≡ Some e) c.self.view_is
-    (said_at c.self.inside.sites.entries i (c.in-Some.name.now, c.in-Some.site.now) (sym c.in-Some.ensures.entry)
-    ∙ ap (λ a. Some (a, said_site c.in-Some.site.now)) (sym c.deref.ensures)) in
+    (said_at c.self.inside.sites.entries i there (sym c.in-Some.ensures.entry) ∙ ap (λ a. Some (a, e.1)) name) in
     c.in_ok-push_answer-in-Some.ensures
     ∙ (ap (λ (found : List StandingAnswer). found ++ answers_in e.0 e.1) c.loop-index.invariant ∙ sym (listed-more answers_in c.args.self.now.sites i e at))
 

@@ -24,7 +24,7 @@ returns-in-Interim-2-clause-faults c more limit =
 pub returns-in_ok-plan-in-Final-clause-sees : goal.returns-in_ok-plan-in-Final-clause-sees
 returns-in_ok-plan-in-Final-clause-sees c last =
     let found = subst (λ (t : List ℕ). IsHeadAt t c.args.headers.now c.args.spans c.requires.at.0) c.requires.looks.prefix c.requires.at.1 in
-    let plan = subst (λ (t : List ℕ). IsPlan c.args.spans.code (map (header_bytes t) (take c.args.spans.headers c.args.headers.now)) (take c.args.spans.len t) (c.args.self.now.at + c.args.spans.len) c.in_ok-plan-in-Final.field-0) c.requires.looks.prefix c.in_ok-plan-in-Final.ensures.ok in
+    let plan = subst (λ (t : List ℕ). IsPlan c.args.spans.code c.args.spans.version (map (header_bytes t) (take c.args.spans.headers c.args.headers.now)) (take c.args.spans.len t) (c.args.self.now.at + c.args.spans.len) c.in_ok-plan-in-Final.field-0) c.requires.looks.prefix c.in_ok-plan-in-Final.ensures.ok in
     planned c.args.self.now c.args.bytes.now c.args.headers.now c.args.spans c.requires.at.0 c.in_ok-plan-in-Final.field-0 c.requires.looks.passes found
     c.in-Final.ensures plan
 
