@@ -94,7 +94,8 @@ static int answer(int peer)
     char request[REQUEST + 1];
     if (!read_request(peer, request))
         return 0;
-    int closes = strstr(request, "\r\nConnection: close\r\n") != 0;
+    /* (a client of HTTP/1.0 reads to the end of the connection) */
+    int closes = strstr(request, "\r\nConnection: close\r\n") || strstr(request, " HTTP/1.0\r\n");
     if (!strncmp(request, "GET /robots.txt ", 16)) {
         robots_count++;
         if (rules)

@@ -1,6 +1,7 @@
 /* Moves the clocks of a program, for checks/serve/clocks.py: the file that CLOCKS names has two numbers, the seconds that
    are added to the wall clock and those that are added to the steady one, and is read at each reading of a clock. It is
    loaded before the C library. */
+#define _GNU_SOURCE
 #include <fcntl.h>
 #include <stdlib.h>
 #include <sys/syscall.h>
@@ -25,7 +26,8 @@ static long moved(int place)
 int clock_gettime(clockid_t clock, struct timespec *time)
 {
     int status = (int)syscall(SYS_clock_gettime, clock, time);
-    if (status == 0 && (clock == CLOCK_REALTIME || clock == CLOCK_MONOTONIC))
+    /* (of the wall clock, as of the last tick too) */
+    if (status == 0 && (clock == CLOCK_REALTIME || clock == CLOCK_REALTIME_COARSE || clock == CLOCK_MONOTONIC))
         time->tv_sec += moved(clock == CLOCK_MONOTONIC);
     return status;
 }

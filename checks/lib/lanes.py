@@ -29,11 +29,11 @@ class Lanes:
 
     def jobs(self, key, others):
         """Returns on how many processors this task begins, where so many others could begin now: 0 if it has to wait.
-        Only a proof can use more than one."""
+        Only a proof can use more than one, and none that another could use, nor its memory."""
         idle = self.idle()
         if not idle or self.running and self.room() < PROOF:
             return 0
-        fits = 1 + max(0, int((self.room() - PROOF) // FURTHER))
+        fits = 1 + max(0, int((self.room() - PROOF * (1 + others)) // FURTHER))
         return max(1, min(MOST, idle - others, fits)) if key[1] in ("proof", "tests") else 1
 
 

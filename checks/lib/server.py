@@ -10,7 +10,7 @@ from concurrent.futures import ThreadPoolExecutor
 
 from lib.cases import short
 from lib.program import BUILT, resident
-from lib.sites import HOST, free_port, reset
+from lib.sites import HOST, free_port, free_ports, reset
 
 # how long a reply, or the program's end, may take where nothing else is said, in seconds
 SECONDS = 30
@@ -98,8 +98,8 @@ class HttpServer(Server):
 class Restarted:
     """A server that is killed, and started again later at the same place: a port, or the path of a socket."""
 
-    def __init__(self, *words, path=None):
-        self.words, self.place = words, path or free_port()
+    def __init__(self, *words, path=None, port=0):
+        self.words, self.place = words, path or port or free_port()
         self.timer = None
         self.start()
 
@@ -129,8 +129,9 @@ class RestartedFront(Restarted):
     """The same of a server with a front, at the same port or at the path of a socket."""
 
     def __init__(self, *words, path=None):
-        self.path, self.http = path, 0 if path else free_port()
-        super().__init__(*words)
+        port, http = free_ports(2)
+        self.path, self.http = path, 0 if path else http
+        super().__init__(*words, port=port)
         self.front = self.server.front
 
     def start(self):

@@ -202,6 +202,30 @@ def lines_sent_ahead():
     return f"{count} of 2,000 pages were fetched, in {took:.1f} s"
 
 
+def lines_behind_a_fetch():
+    """A client whose lines stand behind a fetch of its own, and which may have the turn of those who send several lines,
+    holds up nobody who sends several: each time they are answered at once."""
+    site = open_site({"/slow": (2, response(200, b"hello"))})
+    lines = [f"ASK foobot {site.url('/x')}", "STATE a.example"]
+    with Server("--workers", "3") as server, Session(server) as slow, Session(server) as other, Session(server) as third:
+        same(other.say(f"REFRESH {site.authority}"), f"TAKEN {site.authority} open")
+        slow.send(f"FETCH foobot {site.url('/slow')}\nSTATE b.example\n".encode())
+        until = time.monotonic() + 1
+        longest = count = 0
+        while time.monotonic() < until:
+            for it in (other, third):
+                began = time.monotonic()
+                permit, state = it.say_all(lines)
+                longest = max(longest, time.monotonic() - began)
+                same(state, "STATE a.example unknown idle")
+                same(it.say(f"BACK {permit.removeprefix('PERMIT ')}").split(" ")[0], "BACK")
+                count += 1
+        same(site.asked.count("/slow"), 1)
+        same(slow.lines(4), ["HOP 1 PAGE open 200 5 whole", "BODY 5", "hello", "STATE b.example unknown idle"])
+    in_time(longest, 0.5)
+    return f"{count} times, for at most {1e3 * longest:.1f} ms"
+
+
 @served("--client-permits", "2", "--client-authorities", "2")
 def client_with_bounds(server):
     """One client gets two permits, and makes two sites known; the next one as many. Sites that are known go on."""
@@ -366,6 +390,6 @@ def refreshed_again_and_again():
 
 CASES = [
     numbers_of_others, killed_clients, unread_behind_the_end, nobody_holds_a_worker, gone_during_a_fetch,
-    fetches_for_nobody, lines_sent_ahead, client_with_bounds, patience_with_good_clients, few_descriptors, full_history,
-    closed_streams, memory, refreshed_again_and_again,
+    fetches_for_nobody, lines_sent_ahead, lines_behind_a_fetch, client_with_bounds, patience_with_good_clients,
+    few_descriptors, full_history, closed_streams, memory, refreshed_again_and_again,
 ]

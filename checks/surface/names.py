@@ -1,5 +1,5 @@
 """Names and widths that readers rely on: each type of the product, public or not, has a name of its own, and no line of
-a definition has over 120 columns, nor one of a contract's clauses over 100."""
+a definition or a comment has over 120 columns, nor one of a contract's clauses over 100."""
 import os
 import re
 
@@ -7,7 +7,7 @@ from sources import CLAUSE, read
 
 # (an associated type is indented)
 TYPE = re.compile(r"^(?:pub(?:\(\w+\))? )?(?:struct|enum|union|trait|type) (\w+)", flags=re.M)
-DEFINITION, WIDE_CLAUSE = 120, 100
+WIDEST, WIDE_CLAUSE = 120, 100
 
 
 def files_of(folder, ending):
@@ -28,15 +28,16 @@ def named_twice(root):
 
 
 def too_wide(root):
-    """Returns a line for each one of a definition or a clause that is too wide. Imports are as wide as they are."""
+    """Returns a line for each one of a definition, a comment or a clause that is too wide. Imports are as wide as they
+    are."""
     faults = []
     for crate in sorted(os.listdir(f"{root}/crates")):
         for part, ending in (("specs", ".antt"), ("src", ".rt")):
             for file in files_of(f"{root}/crates/{crate}/{part}", ending):
                 for number, line in enumerate(read(file).split("\n"), 1):
-                    is_wide = len(
-                        line
-                    ) > WIDE_CLAUSE and CLAUSE.match(line) if part == "src" else len(line) > DEFINITION
+                    is_clause = part == "src" and CLAUSE.match(line)
+                    is_read = is_clause or part == "specs" or line.lstrip().startswith("//")
+                    is_wide = is_read and len(line) > (WIDE_CLAUSE if is_clause else WIDEST)
                     if is_wide and not re.match(r"\s*(?:pub )?use ", line):
                         faults.append(f"{os.path.relpath(file, root)}:{number} has {len(line)} columns")
     return faults

@@ -68,11 +68,11 @@ impl TimedAnswer {
     }
 
     /// Its lifetime in seconds.
-    pub fn life(&self) -> u64
+    pub fn life(&self) -> u32
         ensures life { result ≡ self.now.life }
         ensures own { IsOwnLife self.now }
     {
-        self.life
+        self.life as u32
     }
 
     /// How many twins it can still give.

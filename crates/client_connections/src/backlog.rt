@@ -57,7 +57,8 @@ impl Backlog {
     }
 }
 
-// The text of a port that listens: its address, no other one, the state of a listener, and no octets to be sent.
+// The text of a port that listens: its address, no other one, the state of a listener, and no octets to be
+// sent.
 fn port_text(alloc: Global, port: u16) -> Result<String, AllocError> {
     format!(in alloc; " 0100007F:{port:04X} 00000000:0000 0A 00000000:")
 }

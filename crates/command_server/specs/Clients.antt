@@ -3,7 +3,6 @@
 use Rattle.std.specs.Prelude.{◌≡◌, ◌⊎◌, ◌||◌, ℕ, Bool, true, false, List, Option, Some, None, IfSome, Result, Ok, Err}
 use Rattle.path_normal.specs.Capacity.{Enough, Overflows, Refused}
 use Rattle.gate_history.specs.Segment.{Sealed}
-use Rattle.authority_cache.specs.declared.standing_answer.StandingAnswer.{StandingAnswer}
 use Rattle.gate_core.specs.declared.call.Call.{Call}
 use Rattle.gate_core.specs.declared.call.Call.TheVariants as calls
 use Rattle.gate_core.specs.declared.refusal.BeginRefusal.{BeginRefusal}
@@ -11,10 +10,7 @@ use Rattle.gate_core.specs.declared.refusal.NoMemory.{NoMemory}
 use Rattle.gate_core.specs.declared.state.Standing.{Standing}
 use Rattle.gate_core.specs.declared.state.State.{State}
 use Rattle.crawl_job.specs.declared.job.Outcome.{Outcome}
-use Rattle.fetchers.specs.declared.closed_by.ClosedBy.{ClosedBy}
 use Rattle.keepers.specs.Deals.{Deals}
-use Rattle.keepers.specs.declared.counts.Counts.{Counts}
-use Rattle.command_server.specs.declared.server_counters.ServerCounts.{ServerCounts}
 use Rattle.command_lines.specs.CallOf.{command_of}
 use Rattle.command_server.specs.FirstLines.{is_turned_away}
 use Rattle.command_lines.specs.Limits.{max_client_line, max_lines}
@@ -73,6 +69,17 @@ module _ {S : Type 0} (deals : Deals S) where
   DoesCall old (calls.Sweep m) told new = TellsFault old faults.Verb told new
   DoesCall old _ _ new = ⊥
 
+  -- the reply to INFO tells what the keeper counts, beside what its server counted
+  abbrev pub TellsCounts : S → ClientReply → Type 0
+  TellsCounts old (replies.Counted info) = deals.counts old info.now.gate
+  TellsCounts old _ = ⊥
+
+  -- the reply to WHY tells the keeper's answer of the authority, and what closed its site only if it is closed
+  abbrev pub Explains : S → List ℕ → ClientReply → Type 0
+  Explains old authority (replies.Explained named result closed_by) =
+      (named ≡ authority) × deals.answers old authority result × IfSome closed_by (λ by. is_closed result ≡ true)
+  Explains old authority _ = ⊥
+
   -- the keeper does a command, whose result is the reply; a line with a fault does nothing
   abbrev pub DoesCommand : (ℕ → Type 0) → S → Result Command LineFault → ClientReply → S → Type 0
   DoesCommand reads old (Ok (commands.Call call)) told new = DoesCall old call told new
@@ -87,13 +94,8 @@ module _ {S : Type 0} (deals : Deals S) where
   DoesCommand reads old (Ok (commands.Fetch job)) told new =
       (result : Option (Result Outcome NoMemory)) × (deals.fetches reads old job result new × (told ≡ fetched result))
   DoesCommand reads old (Ok (commands.Url url)) told new = (told ≡ replies.Written url) × (new ≡ old)
-  DoesCommand reads old (Ok commands.Info) told new =
-      (counts : Counts) × ((server : ServerCounts)
-      × (deals.counts old counts × (told ≡ replies.Counted counts server) × (new ≡ old)))
-  DoesCommand reads old (Ok (commands.Why authority)) told new =
-      (result : Result (Option StandingAnswer) NoMemory) × ((closed_by : Option ClosedBy)
-      × (deals.answers old authority result × IfSome closed_by (λ by. is_closed result ≡ true)
-      × (told ≡ replies.Explained authority result closed_by) × (new ≡ old)))
+  DoesCommand reads old (Ok commands.Info) told new = TellsCounts old told × (new ≡ old)
+  DoesCommand reads old (Ok (commands.Why authority)) told new = Explains old authority told × (new ≡ old)
   DoesCommand reads old (Ok commands.Quit) told new = deals.ends old new × (told ≡ replies.Bye)
   DoesCommand reads old (Err fault) told new = TellsFault old fault told new
 

@@ -2,10 +2,10 @@
 //! Used by `serve` for a session.
 ghost use Rattle.std.specs.Prelude.{◌≡◌, ◌||◌};
 ghost use Rattle.command_lines.specs.Answers.{ends_session};
-ghost use Rattle.command_server.specs.Clients.{DoesCall, DoesRequest, fetched, is_farewell, refreshed};
+ghost use Rattle.command_server.specs.Clients.{DoesCall, DoesRequest, Explains, TellsCounts, fetched, is_farewell, refreshed};
 ghost use Rattle.command_server.specs.FirstLines.{is_turned_away};
 
-use crate::client_reply::ClientReply;
+use crate::client_reply::{ClientReply, InfoCounts};
 use crate::first_line::FirstLine;
 use crate::kept_pages::KeptPages;
 use crate::numbered_clock::{FetchClock, NumberedClock, next_reading};
@@ -54,7 +54,9 @@ impl<'k, K: Keeper, C: NumberedClock> Answerer<Client<'k, K>> for ClientLines<'_
         output: &mut Output,
         sink: &mut W,
     ) -> Result<Flow, DeviceFault> {
-        let told = self.told_of(alloc, client.number, client.keeper, line);
+        // (in the reply itself the counts would be moved for each line)
+        let mut counts = None;
+        let told = self.told_of(alloc, client.number, client.keeper, line, &mut counts);
         let flow = flow_behind(self.first, client.number, line, &told);
         client.number = next_reading(next_reading(client.number));
         told.count_in(self.counters);
@@ -64,14 +66,16 @@ impl<'k, K: Keeper, C: NumberedClock> Answerer<Client<'k, K>> for ClientLines<'_
 }
 
 impl<C: NumberedClock> ClientLines<'_, C> {
-    // Makes the call of a line at this reading, in the keeper's schemes. Its fetches have the next number.
-    fn told_of<K: Keeper>(
+    // Makes the call of a line at this reading, in the keeper's schemes. Its fetches have the next number. The
+    // counts are INFO's.
+    fn told_of<'i, K: Keeper>(
         &self,
         alloc: Global,
         number: u64,
         keeper: &mut K,
         line: &[u8],
-    ) -> ClientReply
+        counts: &'i mut Option<InfoCounts>,
+    ) -> ClientReply<'i>
         ensures { DoesRequest K.deals self.now.speaker
             (C.reads self.now.clock.now) number keeper.old line.now result keeper.new }
     {
@@ -99,19 +103,8 @@ impl<C: NumberedClock> ClientLines<'_, C> {
             }
             Ok(Command::Fetch(job)) => told_of_fetch(keeper.fetch(alloc, job, clock)),
             Ok(Command::Url(url)) => ClientReply::Written(url),
-            Ok(Command::Info) => ClientReply::Counted {
-                counts: keeper.counts(),
-                server: self.counters.read(),
-            },
-            Ok(Command::Why { authority }) => {
-                let result = keeper.answer(alloc, &authority);
-                let closed_by = cause_of(self.counters, &result);
-                ClientReply::Explained {
-                    authority,
-                    result,
-                    closed_by,
-                }
-            }
+            Ok(Command::Info) => self.told_of_info(keeper, counts),
+            Ok(Command::Why { authority }) => self.told_of_why(alloc, keeper, authority),
             Ok(Command::Quit) => {
                 keeper.end();
                 ClientReply::Bye
@@ -121,10 +114,40 @@ impl<C: NumberedClock> ClientLines<'_, C> {
             Err(fault) => ClientReply::Fault(fault),
         }
     }
+
+    fn told_of_info<'i, K: Keeper>(
+        &self,
+        keeper: &K,
+        counts: &'i mut Option<InfoCounts>,
+    ) -> ClientReply<'i>
+        ensures { TellsCounts K.deals keeper.now result }
+    {
+        ClientReply::Counted(counts.insert(InfoCounts {
+            gate: keeper.counts(),
+            server: self.counters.read(),
+        }))
+    }
+
+    fn told_of_why<'i, K: Keeper>(
+        &self,
+        alloc: Global,
+        keeper: &K,
+        authority: Authority,
+    ) -> ClientReply<'i>
+        ensures { Explains K.deals keeper.now authority result }
+    {
+        let result = keeper.answer(alloc, &authority);
+        let closed_by = cause_of(self.counters, &result);
+        ClientReply::Explained {
+            authority,
+            result,
+            closed_by,
+        }
+    }
 }
 
 // Whether the session goes on after a line with this reading.
-fn flow_behind(first: FirstLine, number: u64, line: &[u8], told: &ClientReply) -> Flow
+fn flow_behind(first: FirstLine, number: u64, line: &[u8], told: &ClientReply<'_>) -> Flow
     ensures { ends_session result ≡ (is_turned_away first number line.now || is_farewell told.now) }
 {
     if first.turns_away(number, line) {
@@ -135,10 +158,10 @@ fn flow_behind(first: FirstLine, number: u64, line: &[u8], told: &ClientReply) -
 }
 
 // Without a result the keeper fetches nothing, so it does not know the verb.
-fn told_of_refresh(
+fn told_of_refresh<'i>(
     authority: Authority,
     standing: Option<Result<Standing, BeginRefusal>>,
-) -> ClientReply
+) -> ClientReply<'i>
     ensures { result ≡ refreshed authority standing }
 {
     match standing {
@@ -147,7 +170,7 @@ fn told_of_refresh(
     }
 }
 
-fn told_of_fetch(outcome: Option<Result<Outcome, NoMemory>>) -> ClientReply
+fn told_of_fetch<'i>(outcome: Option<Result<Outcome, NoMemory>>) -> ClientReply<'i>
     ensures { result ≡ fetched outcome }
 {
     match outcome {
@@ -157,7 +180,7 @@ fn told_of_fetch(outcome: Option<Result<Outcome, NoMemory>>) -> ClientReply
     }
 }
 
-fn told_of_call<K: Keeper>(keeper: &mut K, call: Call) -> ClientReply
+fn told_of_call<'i, K: Keeper>(keeper: &mut K, call: Call) -> ClientReply<'i>
     ensures { DoesCall K.deals keeper.old call result keeper.new }
 {
     match call {

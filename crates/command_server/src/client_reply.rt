@@ -26,9 +26,16 @@ use line_text::{Piece, Pieces};
 use path_normal::{Authority, PageUrl};
 use permit_book::{NotOut, PermitNo};
 
-/// The reply to a client.
+/// How much the gate keeps, and the server's connections.
+#[derive(Clone, Copy, Debug, PartialEq, Eq)]
+pub(crate) struct InfoCounts {
+    pub(crate) gate: Counts,
+    pub(crate) server: ServerCounts,
+}
+
+/// The reply to a client. It is moved for each line, so it has no wide parts.
 #[derive(Drop)]
-pub(crate) enum ClientReply {
+pub(crate) enum ClientReply<'i> {
     /// The line asks for nothing that the session has.
     Fault(LineFault),
     Asked(Result<PermitNo, AskRefusal>),
@@ -57,11 +64,8 @@ pub(crate) enum ClientReply {
     Sealed(Result<Segment, NoMemory>),
     /// The URL of a page as the gate writes it.
     Written(PageUrl),
-    /// How much the gate keeps, and the server's connections.
-    Counted {
-        counts: Counts,
-        server: ServerCounts,
-    },
+    /// The counts of INFO.
+    Counted(&'i InfoCounts),
     /// The authority's standing answer, in force or not, and what closed its site, if that is known.
     Explained {
         authority: Authority,
@@ -74,7 +78,7 @@ pub(crate) enum ClientReply {
     Bye,
 }
 
-impl ClientReply {
+impl ClientReply<'_> {
     /// Whether the session goes on.
     pub(crate) fn flow(&self) -> Flow
         ensures { ends_session result ≡ is_farewell self.now }
@@ -152,9 +156,7 @@ impl ClientReply {
         let line = match self {
             ClientReply::Fetched(outcome) => return push_fetched(outcome, output, sink),
             ClientReply::Sealed(result) => return push_sealed(result, output, sink),
-            ClientReply::Counted { counts, server } => {
-                return push_info(*counts, *server, output, sink);
-            }
+            ClientReply::Counted(info) => return push_info(info.gate, info.server, output, sink),
             ClientReply::Explained {
                 authority,
                 result,

@@ -50,7 +50,8 @@ pub fn serve<R: Source, W: Sink, K: Keeper, C: NumberedClock>(
     )
 }
 
-/// Like `serve`, but ends the session after a first line that is turned away, and counts in these counters, which INFO tells.
+/// Like `serve`, but ends the session after a first line that is turned away, and counts in these counters,
+/// which INFO tells.
 pub fn serve_from<R: Source, W: Sink, K: Keeper, C: NumberedClock>(
     alloc: Global,
     reader: &mut R,

@@ -59,8 +59,8 @@ all_end b =
     (All-append IsEnding (map finish b.running) (map (unanswered b.moment) b.in_flight) (all_finish b.running) (all_answer b.moment b.in_flight))
 
 lasts : (version : Version) (e : Entry) → IsEnding e → HasLife version e
-lasts One (Arrived moment authority turn says life) is = is.0
-lasts Two (Arrived moment authority turn says life) is = is.1
+lasts One (Arrived life moment authority turn says) is = is.0
+lasts Two (Arrived life moment authority turn says) is = is.1
 lasts version (Returned number) is = tt
 lasts version (Finished number) is = tt
 lasts version (Begun _ _ _) is = absurd is
@@ -71,7 +71,7 @@ lasts version (StartDenied _ _ _) is = absurd is
 lasts version (Swept _ _) is = absurd is
 
 rises : (h : History) (e : Entry) → IsEnding e → Rises h e
-rises h (Arrived moment authority turn says life) is = tt
+rises h (Arrived life moment authority turn says) is = tt
 rises h (Returned number) is = tt
 rises h (Finished number) is = tt
 rises h (Begun _ _ _) is = absurd is

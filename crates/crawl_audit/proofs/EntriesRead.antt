@@ -94,13 +94,13 @@ body_read word (Err error) named body is spelled = tt
 -- ---- arrivals
 
 arrival_alone : (version : Version) (words : List (List ℕ)) (P : Entry → Type 0) →
-    ((moment : ℕ) (authority : List ℕ) (turn : ℕ) (s : Said) (life : ℕ) → IsEntry version (Arrived moment authority turn s life) → words ≡ entry_fields version (Arrived moment authority turn s life) → P (Arrived moment authority turn s life)) →
+    ((moment : ℕ) (authority : List ℕ) (turn : ℕ) (s : Said) (life : ℕ) → IsEntry version (Arrived life moment authority turn s) → words ≡ entry_fields version (Arrived life moment authority turn s) → P (Arrived life moment authority turn s)) →
     (e : Entry) → IsEntry version e → codes "A" ∷ words ≡ words_of (entry_line version e) → P e
 arrival_alone version words P of e is spelled = by e is (spelled ∙ entry_words version e is)
   where
     by : (e : Entry) → IsEntry version e → codes "A" ∷ words ≡ letter_of e ∷ entry_fields version e → P e
     by (Begun _ _ _) is whole = absurd (other_word 65 66 _ _ _ _ (λ e. omega arith) whole)
-    by (Arrived moment authority turn s life) is whole = of moment authority turn s life is (ap tail_words whole)
+    by (Arrived life moment authority turn s) is whole = of moment authority turn s life is (ap tail_words whole)
     by (Granted _ _ _) is whole = absurd (other_word 65 71 _ _ _ _ (λ e. omega arith) whole)
     by (AskDenied _ _ _) is whole = absurd (other_word 65 78 _ _ _ _ (λ e. omega arith) whole)
     by (Started _ _ _) is whole = absurd (other_word 65 83 _ _ _ _ (λ e. omega arith) whole)
@@ -121,13 +121,13 @@ arrival_refused version words unread reads =
 pub arrival_is : (version : Version) (words : List (List ℕ)) (moment : ℕ) (authority : List ℕ) (turn : ℕ) (answer : Answer) (life : ℕ) →
     number_of (head_word words) ≡ Some moment → authority_named (head_word (tail_words words)) ≡ Some authority → number_of (head_word (tail_words (tail_words words))) ≡ Some turn →
     ReadsAnswer version (behind_three words) (Ok (answer, life)) →
-    (e : Entry) → IsEntry version e → codes "A" ∷ words ≡ words_of (entry_line version e) → Arrived moment authority turn (said answer) life ≡ e
-arrival_is version words moment authority turn answer life at of in_turn reads = arrival_alone version words (λ e. Arrived moment authority turn (said answer) life ≡ e) by
+    (e : Entry) → IsEntry version e → codes "A" ∷ words ≡ words_of (entry_line version e) → Arrived life moment authority turn (said answer) ≡ e
+arrival_is version words moment authority turn answer life at of in_turn reads = arrival_alone version words (λ e. Arrived life moment authority turn (said answer) ≡ e) by
   where
-    by : (m : ℕ) (a : List ℕ) (t : ℕ) (s : Said) (l : ℕ) → IsEntry version (Arrived m a t s l) → words ≡ entry_fields version (Arrived m a t s l) → Arrived moment authority turn (said answer) life ≡ Arrived m a t s l
+    by : (m : ℕ) (a : List ℕ) (t : ℕ) (s : Said) (l : ℕ) → IsEntry version (Arrived l m a t s) → words ≡ entry_fields version (Arrived l m a t s) → Arrived life moment authority turn (said answer) ≡ Arrived l m a t s
     by m a t s l is whole =
         let same = reads s l is.fields.3 is.life (ap behind_three whole) in
         let moment_is : moment ≡ m = ap (λ o. unwrap_or o m) (sym at ∙ ap (λ ws. number_of (head_word ws)) whole ∙ number_back m is.fields.0) in
         let authority_is : authority ≡ a = ap (λ o. unwrap_or o a) (sym of ∙ ap (λ ws. authority_named (head_word (tail_words ws))) whole ∙ authority_back a is.fields.1) in
         let turn_is : turn ≡ t = ap (λ o. unwrap_or o t) (sym in_turn ∙ ap (λ ws. number_of (head_word (tail_words (tail_words ws)))) whole ∙ number_back t is.fields.2) in
-        λ i. Arrived (moment_is i) (authority_is i) (turn_is i) (same.0 i) (same.1 i)
+        λ i. Arrived (same.1 i) (moment_is i) (authority_is i) (turn_is i) (same.0 i)

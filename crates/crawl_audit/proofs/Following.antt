@@ -76,15 +76,15 @@ module _ (l : OpenState) (h : History) (t : Tells l h) where
 
   pub arrived_follows : IsLegal h → (moment turn life : ℕ) (authority : List ℕ) (says : Said) (cache : Known) → l.clock ≤ moment → life_of says life ≡ life →
       site_turn turn (site_of l.cache authority) ≡ true → Changes l.cache authority (arrived turn says life (site_of l.cache authority)) cache →
-      MayCome l.numbers.rising h (Arrived moment authority turn says life) × Enters l.numbers.rising (h ▸ Arrived moment authority turn says life) (record l { clock = moment; begins = l.begins; cache = cache; numbers = l.numbers })
+      MayCome l.numbers.rising h (Arrived life moment authority turn says) × Enters l.numbers.rising (h ▸ Arrived life moment authority turn says) (record l { clock = moment; begins = l.begins; cache = cache; numbers = l.numbers })
   arrived_follows legal moment turn life authority says cache fit lasting flying changes =
       let there = flying_turn authority turn ∙ flying in
-      comes (Arrived moment authority turn says life) _ (omega (arith, t.clock_is), there, lasting) (λ _. tt)
+      comes (Arrived life moment authority turn says) _ (omega (arith, t.clock_is), there, lasting) (λ _. tt)
       (record {
         clock_is = on_time moment (now h) l.clock t.clock_is fit;
         begins_are = t.begins_are;
         cache_tells = cache_laws.arrives l.cache cache (standing h) (in_flight h) authority turn life says t.cache_tells flying ((stands_once h legal).own_turn authority turn there) changes;
-        numbers_tell = still l.numbers h (h ▸ Arrived moment authority turn says life) refl refl refl (λ _. refl) t.numbers_tell;
+        numbers_tell = still l.numbers h (h ▸ Arrived life moment authority turn says) refl refl refl (λ _. refl) t.numbers_tell;
       }) refl
 
   -- ---- sweeps

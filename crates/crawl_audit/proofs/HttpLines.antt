@@ -165,7 +165,7 @@ none_answer version (says.Closed closure) life lasting = one (closure_word closu
 fields_name : (version : Version) (e : Entry) → IsEntry version e → names_any (letter_of e ∷ entry_fields version e) ≡ is_https_entry e
 fields_name version (Begun moment authority turn) is =
     passed (decimal moment) (authority ∷ decimal turn ∷ []) (plain_decimal moment is.fields.0) ∙ found authority (decimal turn ∷ []) (one (decimal turn) (plain_decimal turn is.fields.2))
-fields_name version (Arrived moment authority turn said life) is =
+fields_name version (Arrived life moment authority turn said) is =
     let answer = answer_fields version said life in
     passed (decimal moment) (authority ∷ decimal turn ∷ answer) (plain_decimal moment is.fields.0)
     ∙ found authority (decimal turn ∷ answer) (passed (decimal turn) answer (plain_decimal turn is.fields.2) ∙ none_answer version said life is.life)

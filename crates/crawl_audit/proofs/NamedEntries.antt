@@ -119,7 +119,7 @@ arrived_named version words =
     and_then (authority_named (head_word (tail_words words))) (λ authority.
     and_then (number_of (head_word (tail_words (tail_words words)))) (λ turn.
     and_then (answer_named version (tail_words (tail_words (tail_words words)))) (λ lasting.
-    Some (Arrived moment authority turn lasting.says lasting.life)))))
+    Some (Arrived lasting.life moment authority turn lasting.says)))))
 
 abbrev pub granted_named : List (List ℕ) → Option Entry
 granted_named words =

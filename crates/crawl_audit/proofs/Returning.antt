@@ -98,7 +98,7 @@ answer_length version (says.Closed closures.Other) life body is = omega arith
 pub line_length : (version : Version) (e : Entry) → IsEntry version e → length (entry_line version e) ≤ line_limit
 line_length version (Begun moment authority turn) is =
     omega (arith, digits moment is.fields.0, is.fields.1.limit, digits turn is.fields.2, more (decimal moment) (authority ∷ decimal turn ∷ []), more authority (decimal turn ∷ []), more (decimal turn) [])
-line_length version (Arrived moment authority turn said life) is =
+line_length version (Arrived life moment authority turn said) is =
     let answer = answer_fields version said life in
     omega (
       arith,

@@ -99,7 +99,7 @@ shown_letter (Swept _ _) = shown_word (codes "W") refl
 shown_fields : (version : Version) (e : Entry) → IsEntry version e → All IsShown (entry_fields version e)
 shown_fields version (Begun moment authority turn) is =
     three (decimal moment) authority (decimal turn) (shown_decimal moment is.fields.0) (shown_authority authority is.fields.1) (shown_decimal turn is.fields.2)
-shown_fields version (Arrived moment authority turn said life) is =
+shown_fields version (Arrived life moment authority turn said) is =
     All-append IsShown (decimal moment ∷ authority ∷ decimal turn ∷ []) (answer_fields version said life)
     (three (decimal moment) authority (decimal turn) (shown_decimal moment is.fields.0) (shown_authority authority is.fields.1) (shown_decimal turn is.fields.2))
     (shown_answer version said life is.fields.3 is.life)
@@ -160,7 +160,7 @@ answer_back Two (says.Closed closure) life body is = closed_back Two closure lif
 pub behind_back : (version : Version) (e : Entry) → IsEntry version e → entry_behind version (letter_of e) (entry_fields version e) ≡ Some e
 behind_back version (Begun moment authority turn) is =
     rw (number_back moment is.fields.0, authority_back authority is.fields.1, number_back turn is.fields.2) refl
-behind_back version (Arrived moment authority turn said life) is =
+behind_back version (Arrived life moment authority turn said) is =
     rw (number_back moment is.fields.0, authority_back authority is.fields.1, number_back turn is.fields.2, answer_back version said life is.fields.3 is.life) refl
 behind_back version (Granted moment number fetch) is =
     rw (number_back moment is.fields.0, number_back number is.fields.1, is.fields.2.token, page_back fetch.url is.fields.2.url) refl

@@ -37,7 +37,7 @@ finish p = Finished p.number
 
 -- a turn ends at this moment, without an answer from the network
 abbrev pub unanswered : ℕ → Turn → Entry
-unanswered moment t = Arrived moment t.authority t.turn (says.Closed closures.Network) greatest_life
+unanswered moment t = Arrived greatest_life moment t.authority t.turn (says.Closed closures.Network)
 
 -- ends all that the base left open, at the greatest moment
 abbrev pub ends_of : Base → List Entry
@@ -53,7 +53,7 @@ HasBegun (inside after lines) = ⊥
 
 -- an entry that ends something, possible in each version
 abbrev pub IsEnding : Entry → Type 0
-IsEnding (Arrived moment authority turn says life) = (life ≡ greatest_life) × (life_of says life ≡ life)
+IsEnding (Arrived life moment authority turn says) = (life ≡ greatest_life) × (life_of says life ≡ life)
 IsEnding (Returned number) = Unit {0}
 IsEnding (Finished number) = Unit {0}
 IsEnding _ = ⊥

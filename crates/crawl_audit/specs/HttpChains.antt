@@ -13,7 +13,7 @@ use Rattle.history_text.specs.Texts.{Text}
 -- the entry names a site or a page of `https`
 abbrev pub is_https_entry : Entry → Bool
 is_https_entry (Begun moment authority turn) = is_https authority
-is_https_entry (Arrived moment authority turn says life) = is_https authority
+is_https_entry (Arrived life moment authority turn says) = is_https authority
 is_https_entry (Granted moment number fetch) = is_https fetch.url
 is_https_entry (AskDenied moment fetch cause) = is_https fetch.url
 is_https_entry _ = false

@@ -9,7 +9,7 @@ use Rattle.crawl_audit.specs.declared.record.Record.TheVariants as records
 -- the entry that a record is
 abbrev pub entry_of : Record → Entry
 entry_of (records.Begun moment authority turn) = Begun moment authority turn
-entry_of (records.Arrived moment authority turn answer life) = Arrived moment authority turn (said answer) life
+entry_of (records.Arrived moment authority turn answer life) = Arrived life moment authority turn (said answer)
 entry_of (records.Granted moment number fetch) = Granted moment number fetch
 entry_of (records.AskDenied moment fetch cause) = AskDenied moment fetch cause
 entry_of (records.Started moment number reason) = Started moment number reason

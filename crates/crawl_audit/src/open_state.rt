@@ -152,7 +152,7 @@ impl OpenState {
     ) -> Result<(), UnreadLine>
         requires { life_of (said answer) life ≡ life }
         ensures tells { (h : History) → IsLegal h → Tells self.old h
-            → FollowsLegally self.old h (Arrived moment authority.now turn (said answer) life)
+            → FollowsLegally self.old h (Arrived life moment authority.now turn (said answer))
             result self.new }
         ensures counts { KeepsCounts self.old self.new }
     {

@@ -1,5 +1,6 @@
-//! When the lines of a report or a table are written: at once, or, behind others, after a short time, with many in a write.
-//! Used by `progress` and `table`; `shifting` and `later` run the thread that flushes them in time.
+//! When the lines of a report or a table are written: at once, or, behind others, after a short time, with
+//! many in a write. Used by `progress` and `table`; `shifting` and `later` run the thread that flushes them
+//! in time.
 use std::sync::{Condvar, Mutex, Wait};
 use std::time;
 use std::time::Duration;
@@ -133,8 +134,8 @@ impl ShiftWork {
     }
 }
 
-/// Flushes the lines again and again until the work has ended, and then once more. Without a second thread this may run
-/// before the work: then it returns, and no line waits.
+/// Flushes the lines again and again until the work has ended, and then once more. Without a second thread
+/// this may run before the work: then it returns, and no line waits.
 pub(crate) fn flush_in_time<L: Flushes, R: Wait + time::Clock>(
     rt: &R,
     lines: &L,

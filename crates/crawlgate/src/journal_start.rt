@@ -266,8 +266,8 @@ fn tell_fault(
     }
 }
 
-// Reports a wrong line; or, where it is in or after a file before which one is not here, that. (The names of files
-// are in their order.)
+// Reports a wrong line; or, where it is in or after a file before which one is not here, that. (The names of
+// files are in their order.)
 fn tell_bad_line_in(host: &HostRuntime, files: &LastFiles<HostRuntime>, line: u64) -> Ending {
     let wrong = files.line_of(line);
     match files.first_misplaced(None) {

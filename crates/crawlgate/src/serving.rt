@@ -28,7 +28,8 @@ use std::thread::Threads;
 use std::time::Duration;
 use std::{fs, io, time};
 
-// Reports on standard error what an operator should know of. The folder is that of the journal, if there is one.
+// Reports on standard error what an operator should know of. The folder is that of the journal, if there is
+// one.
 #[derive(Drop)]
 struct Warnings<'a> {
     rt: &'a HostRuntime,

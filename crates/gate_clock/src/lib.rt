@@ -5,6 +5,7 @@
 mod laws;
 mod moments;
 mod steady_clock;
+mod wall_clock;
 
 pub use laws::{an_answer_lasts_a_day, no_answer_of_before_lasts, the_clock_is_steady};
 pub use moments::{DAY_PAST, SLACK_SECONDS};

@@ -6,6 +6,7 @@ ghost use Rattle.gate_clock.specs.Moments.{BeginsAt};
 use crate::moments::{
     ClockReading, MOST_NANOSECONDS, ahead_after, epoch_of, is_set_back, moment_at, nanoseconds,
 };
+use crate::wall_clock::{wall_at_tick, wall_of};
 use page_worker::Clock;
 use std::sync::atomic::{AtomicU64, Ordering};
 use std::sync::{Mutex, Wait};
@@ -23,7 +24,8 @@ pub enum Beginning {
 }
 
 /// The wall clock, but never behind the last moment and the seconds of a steady clock since. Whole seconds
-/// since the beginning of 1970, UTC, as long as the wall clock shows these.
+/// since the beginning of 1970, UTC, as long as the wall clock shows these. A wall clock that is set ahead is
+/// noticed at the system's next tick.
 #[derive(Drop)]
 pub struct SteadyClock<'a, R: Wait + time::Clock> {
     rt: &'a R,
@@ -42,28 +44,32 @@ impl<'a, R: Wait + time::Clock> SteadyClock<'a, R> {
     pub fn new(rt: &'a R, last: u64) -> (SteadyClock<'a, R>, Beginning)
         ensures { BeginsAt last result.0.epoch result.1 }
     {
-        let wall = wall_of(rt).as_secs();
+        let shown = wall_of(rt);
         let began = steady_of(rt);
+        let wall = shown.as_secs();
         let beginning = if is_set_back(last, wall) {
             Beginning::SetBack(last.saturating_sub(wall))
         } else {
             Beginning::GoesOn
         };
+        let epoch = epoch_of(last, wall);
+        let past = shown.saturating_sub(Duration::from_secs(epoch));
         let clock = SteadyClock {
             rt,
-            epoch: epoch_of(last, wall),
+            epoch,
             began,
-            ahead: AtomicU64::new(0),
+            ahead: AtomicU64::new(nanoseconds(past)),
             raising: Mutex::new(()),
         };
         (clock, beginning)
     }
 
+    // The steady clock is read exactly, so no moment is late where the tick is.
     fn read(&self) -> ClockReading
         ensures past { result.past ≤ 2 ^ 62 }
         ensures elapsed { result.elapsed ≤ 2 ^ 62 }
     {
-        let past = wall_of(self.rt).saturating_sub(Duration::from_secs(self.epoch));
+        let past = wall_at_tick(self.rt).saturating_sub(Duration::from_secs(self.epoch));
         let elapsed = steady_of(self.rt).saturating_sub(self.began);
         ClockReading {
             past: nanoseconds(past),
@@ -107,10 +113,6 @@ impl<R: Wait + time::Clock> Clock for SteadyClock<'_, R> {
         };
         moment_at(self.epoch, ahead, reading)
     }
-}
-
-fn wall_of<R: time::Clock>(rt: &R) -> Duration {
-    rt.since_1970().unwrap_or(Duration::ZERO)
 }
 
 fn steady_of<R: time::Clock>(rt: &R) -> Duration {

@@ -469,10 +469,10 @@ module _ (b : Inside) (kept : IsKept b) (entries : Vec Entry Global) (cache : Kn
 
   pub arrived_kept : (moment turn : ℕ) (authority : List ℕ) (answer : Timed) → IsOwnLife answer → now (told b) ≤ moment → has_turn turn (site_of b.cache authority) ≡ true →
       Changes b.cache authority (arrived turn answer.says answer.life (site_of b.cache authority)) cache → KeepsName (names_by b.names) turn None (names_by names) →
-      entries.items ≡ b.entries.items ++ Arrived moment authority turn answer.says answer.life ∷ [] → vec_capacity entries ≡ vec_capacity b.entries →
+      entries.items ≡ b.entries.items ++ Arrived answer.life moment authority turn answer.says ∷ [] → vec_capacity entries ≡ vec_capacity b.entries →
       IsKept (after_turn b entries moment b.begins cache names)
   arrived_kept moment turn authority answer own late flying changes keeps more room =
-      let e : Entry = Arrived moment authority turn answer.says answer.life in
+      let e : Entry = Arrived answer.life moment authority turn answer.says in
       let stands = sym ((cache_laws.reads_alike b.cache (standing (told b)) (in_flight (told b)) kept.cache).turns authority turn) ∙ flying in
       let fit : MayFollow (told b) e = (late, stands, own) in
       let counts = each_entry_counts (told b) e kept.legal fit in

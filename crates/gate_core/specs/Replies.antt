@@ -49,7 +49,7 @@ Begins old authority m (Err begin.NoMemory) new =
 abbrev pub Arrives : Gate → List ℕ → ℕ → Timed → ℕ → Result Unit Stale → Gate → Type 0
 Arrives old authority turn answer m (Ok _) new =
     (has_turn (history old) authority turn ≡ true)
-    × Adds old (Arrived (moment_at old m) authority turn answer.says answer.life) new
+    × Adds old (Arrived answer.life (moment_at old m) authority turn answer.says) new
 Arrives old authority turn answer m (Err _) new = (has_turn (history old) authority turn ≡ false) × Stays old new
 
 -- the fetch is allowed at the moment of a call

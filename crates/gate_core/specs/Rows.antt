@@ -54,7 +54,7 @@ begun = Begun 100 site 1 ∷ []
 
 -- the site has no robots.txt
 abbrev pub open_site : List Entry
-open_site = Begun 100 site 1 ∷ Arrived 105 site 1 no_file 86400 ∷ []
+open_site = Begun 100 site 1 ∷ Arrived 86400 105 site 1 no_file ∷ []
 
 -- a permit for the page is granted at this moment
 abbrev pub grant : ℕ → ℕ → List ℕ → Entry
@@ -62,12 +62,12 @@ grant moment number url = Granted moment number (record { token = foobot; url = 
 
 -- a permit was granted
 abbrev pub granted : List Entry
-granted = Begun 100 site 1 ∷ Arrived 105 site 1 no_file 86400 ∷ grant 110 65536 page ∷ []
+granted = Begun 100 site 1 ∷ Arrived 86400 105 site 1 no_file ∷ grant 110 65536 page ∷ []
 
 -- its fetch was started at this moment
 abbrev pub started_at : ℕ → List Entry
 started_at moment =
-    Begun 100 site 1 ∷ Arrived 105 site 1 no_file 86400 ∷ grant 110 65536 page ∷ Started moment 65536 reasons.Open ∷ []
+    Begun 100 site 1 ∷ Arrived 86400 105 site 1 no_file ∷ grant 110 65536 page ∷ Started moment 65536 reasons.Open ∷ []
 
 -- the reply to a start of this permit
 abbrev pub go : ℕ → List ℕ → Start
@@ -80,18 +80,18 @@ no url cause = record { url = url; cause = cause }
 -- two permits were granted
 abbrev pub two_granted : List Entry
 two_granted =
-    Begun 100 site 1 ∷ Arrived 105 site 1 no_file 86400 ∷ grant 110 65536 page ∷ grant 111 65537 other_page ∷ []
+    Begun 100 site 1 ∷ Arrived 86400 105 site 1 no_file ∷ grant 110 65536 page ∷ grant 111 65537 other_page ∷ []
 
 -- the second permit's start came too late
 abbrev pub one_expired : List Entry
 one_expired =
-    Begun 100 site 1 ∷ Arrived 105 site 1 no_file 86400 ∷ grant 110 65536 page ∷ grant 111 65537 other_page
+    Begun 100 site 1 ∷ Arrived 86400 105 site 1 no_file ∷ grant 110 65536 page ∷ grant 111 65537 other_page
     ∷ StartDenied 86501 65537 causes.Expired ∷ []
 
 -- the fetch was started and ended
 abbrev pub finished : List Entry
 finished =
-    Begun 100 site 1 ∷ Arrived 105 site 1 no_file 86400 ∷ grant 110 65536 page ∷ Started 112 65536 reasons.Open
+    Begun 100 site 1 ∷ Arrived 86400 105 site 1 no_file ∷ grant 110 65536 page ∷ Started 112 65536 reasons.Open
     ∷ Finished 65536 ∷ []
 
 -- the number has no permit
@@ -105,4 +105,4 @@ last_number = 18446744073709486080
 -- the permit of the last generation was granted and given back
 abbrev pub last_returned : List Entry
 last_returned =
-    Begun 100 site 1 ∷ Arrived 105 site 1 no_file 86400 ∷ grant 110 last_number page ∷ Returned last_number ∷ []
+    Begun 100 site 1 ∷ Arrived 86400 105 site 1 no_file ∷ grant 110 last_number page ∷ Returned last_number ∷ []

@@ -26,8 +26,8 @@ pub struct Book {
     // The valid answers and the turns in flight.
     pub(crate) cache: Cache,
     // What nearly every call changes stands together, since another processor has to fetch it anew: the
-    // outstanding permits, also of each authority, the entries, and the gate's moment with the begins and started
-    // fetches of the history.
+    // outstanding permits, also of each authority, the entries, and the gate's moment with the begins and
+    // started fetches of the history.
     pub(crate) places: PlaceCounts,
     pub(crate) permits: Permits,
     pub(crate) entries: Vec<Entry>,

@@ -46,7 +46,7 @@ each_entry_counts h (Begun m a turn) legal fit = record {
   running_are = refl;
   flights_are = omega (arith, length-append (in_flight h) (turn_for a (record { turn = turn; begun = m }) ∷ []));
 }
-each_entry_counts h (Arrived m a turn says life) legal fit =
+each_entry_counts h (Arrived life m a turn says) legal fit =
     let once = stands_once h legal in
     let found : list_any (has_number turn) (in_flight h) ≡ true = any-first (in_flight h) fit.1 in
     let some = some-found (has_number turn) (in_flight h) found in

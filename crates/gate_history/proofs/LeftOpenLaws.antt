@@ -50,7 +50,7 @@ more xs ys = ap (λ zs. zs ++ ys) (sym (filter-all xs))
 
 turns : (h : History) (e : Entry) → in_flight (h ▸ e) ≡ filter (λ t. not (closes_turn e t)) (in_flight h) ++ turns_opened h e
 turns h (Begun m a turn) = more (in_flight h) _
-turns h (Arrived m a turn says life) = shut _ (in_flight h)
+turns h (Arrived life m a turn says) = shut _ (in_flight h)
 turns h (Granted _ _ _) = idle (in_flight h)
 turns h (AskDenied _ _ _) = idle (in_flight h)
 turns h (Started _ _ _) = idle (in_flight h)
@@ -61,7 +61,7 @@ turns h (Swept _ _) = idle (in_flight h)
 
 answers : (h : History) (e : Entry) → standing (h ▸ e) ≡ filter (λ s. not (closes_answer e s)) (standing h) ++ answers_opened h e
 answers h (Begun _ _ _) = idle (standing h)
-answers h (Arrived m a turn says life) = refl
+answers h (Arrived life m a turn says) = refl
 answers h (Granted _ _ _) = idle (standing h)
 answers h (AskDenied _ _ _) = idle (standing h)
 answers h (Started _ _ _) = idle (standing h)

@@ -64,7 +64,7 @@ IsNew h _ = Unit {0}
 
 legal-after : (g h : History) (e : Entry) → AnswersAlike g h → now g ≡ now h → begins g ≡ begins h → IsNew h e → MayFollow g e → MayFollow h e
 legal-after g h (Begun m a turn) alike moment count new fit = (rw (← moment) fit.0, sym (alike.is_fetching a) ∙ fit.1, rw (← count) fit.2)
-legal-after g h (Arrived m a turn says life) alike moment count new fit = (rw (← moment) fit.0, sym (alike.has_turn a turn) ∙ fit.1, fit.2)
+legal-after g h (Arrived life m a turn says) alike moment count new fit = (rw (← moment) fit.0, sym (alike.has_turn a turn) ∙ fit.1, fit.2)
 legal-after g h (Granted m n fetch) alike moment count new fit =
     (rw (← moment) fit.0, new, (fit.2.0, decides g h alike fetch.token fetch.url m (Ok fit.2.0) fit.2.1))
 legal-after g h (AskDenied m fetch cause) alike moment count new fit = (rw (← moment) fit.0, decides g h alike fetch.token fetch.url m (Err cause) fit.1)

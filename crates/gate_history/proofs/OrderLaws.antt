@@ -81,7 +81,7 @@ one-more g h (Begun m a turn) same = record {
   entries = ap (λ n. n + 1) same.entries;
   started = same.started;
 }
-one-more g h (Arrived m a turn says life) same = record {
+one-more g h (Arrived life m a turn says) same = record {
   answers = says-append is_answer_for (filter (λ s. not (is_answer_for a s)) (standing g)) (filter (λ s. not (is_answer_for a s)) (standing h)) _ _
       (says-filter is_answer_for (λ s. not (is_answer_for a s)) (standing g) (standing h) same.answers)
       (says-map is_answer_for (answered says life) (filter (has_number turn) (in_flight g)) (filter (has_number turn) (in_flight h))

@@ -62,7 +62,7 @@ step h (Begun m a turn) sound fit = record {
   };
   granted = sound.granted;
 }
-step h (Arrived m a turn says life) sound fit = record {
+step h (Arrived life m a turn says) sound fit = record {
   base = record {
     permits = sound.base.permits;
     turns = turns-arrived (standing h) (in_flight h) (begins h) (now h) (max m (now h)) a turn says life (le-max_right m (now h)) fit.1 fit.2 sound.base.turns;

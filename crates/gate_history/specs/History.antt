@@ -19,7 +19,7 @@ followed_by h (e ∷ later) = followed_by (h ▸ e) later
 -- the moment of an entry; returns and finishes have none
 abbrev pub moment_of : Entry → ℕ
 moment_of (Begun moment _ _) = moment
-moment_of (Arrived moment _ _ _ _) = moment
+moment_of (Arrived _ moment _ _ _) = moment
 moment_of (Granted moment _ _) = moment
 moment_of (AskDenied moment _ _) = moment
 moment_of (Started moment _ _) = moment

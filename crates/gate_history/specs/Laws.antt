@@ -166,7 +166,7 @@ pub record Counts (h : History) (e : Entry)
 -- what each kind of entry adds to and takes from the counts
 abbrev pub CountsOf : History → Entry → Type 0
 CountsOf h (Begun moment authority turn) = Counts h (Begun moment authority turn) 0 0 0 0 0 1 0
-CountsOf h (Arrived moment authority turn says life) = Counts h (Arrived moment authority turn says life) 0 0 0 0 0 0 1
+CountsOf h (Arrived life moment authority turn says) = Counts h (Arrived life moment authority turn says) 0 0 0 0 0 0 1
 CountsOf h (Granted moment number fetch) = Counts h (Granted moment number fetch) 0 1 0 0 0 0 0
 CountsOf h (AskDenied moment fetch cause) = Counts h (AskDenied moment fetch cause) 0 0 0 0 0 0 0
 CountsOf h (Started moment number reason) = Counts h (Started moment number reason) 1 0 1 1 0 0 0

@@ -36,17 +36,17 @@ turns_opened h _ = []
 
 -- an arrival closes the turn of its number
 abbrev pub closes_turn : Entry → Turn → Bool
-closes_turn (Arrived _ _ turn _ _) t = has_number turn t
+closes_turn (Arrived _ _ _ turn _) t = has_number turn t
 closes_turn _ t = false
 
 -- an arrival opens its answer, for the turn that it closes
 abbrev pub answers_opened : History → Entry → List StandingAnswer
-answers_opened h (Arrived _ _ turn says life) = map (answered says life) (filter (has_number turn) (in_flight h))
+answers_opened h (Arrived life _ _ turn says) = map (answered says life) (filter (has_number turn) (in_flight h))
 answers_opened h _ = []
 
 -- an answer is closed by a later arrival, or by a sweep when older than its life
 abbrev pub closes_answer : Entry → StandingAnswer → Bool
-closes_answer (Arrived _ authority _ _ _) s = is_answer_for authority s
+closes_answer (Arrived _ _ authority _ _) s = is_answer_for authority s
 closes_answer (Swept moment _) s = is_past_answer moment s
 closes_answer _ s = false
 

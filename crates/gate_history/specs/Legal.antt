@@ -23,7 +23,7 @@ abbrev pub MayFollow : History → Entry → Type 0
 -- a begin finds no turn of its authority in flight, and has the next number
 MayFollow h (Begun moment authority turn) = (now h ≤ moment) × (is_fetching h authority ≡ false) × (turn ≡ begins h + 1)
 -- an arrival answers the authority's turn in flight, with a suitable life
-MayFollow h (Arrived moment authority turn says life) =
+MayFollow h (Arrived life moment authority turn says) =
     (now h ≤ moment) × (has_turn h authority turn ≡ true) × (life_of says life ≡ life)
 -- a granted number is new, and its fetch is allowed
 MayFollow h (Granted moment number fetch) =

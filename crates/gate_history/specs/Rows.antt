@@ -28,7 +28,7 @@ no_file = says.Open Unavailable
 -- the fetch was granted and started
 abbrev pub one_fetch : History
 one_fetch =
-    from empty_base ▸ Begun 100 site 1 ▸ Arrived 105 site 1 no_file 86400
+    from empty_base ▸ Begun 100 site 1 ▸ Arrived 86400 105 site 1 no_file
     ▸ Granted 110 65536 (record { token = foobot; url = page }) ▸ Started 120 65536 reasons.Open
 
 -- what it left open, and its numbers

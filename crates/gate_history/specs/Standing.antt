@@ -12,14 +12,14 @@ abbrev pub in_flight : History → List Turn
 in_flight (from base) = base.in_flight
 in_flight (h ▸ Begun moment authority turn) =
     in_flight h ++ turn_for authority (record { turn = turn; begun = moment }) ∷ []
-in_flight (h ▸ Arrived _ _ turn _ _) = filter (λ t. not (has_number turn t)) (in_flight h)
+in_flight (h ▸ Arrived _ _ _ turn _) = filter (λ t. not (has_number turn t)) (in_flight h)
 in_flight (h ▸ _) = in_flight h
 
 -- the answers: an arrival replaces its authority's, whose age counts from the begin of its turn; a sweep removes
 -- those older than their lives
 abbrev pub standing : History → List StandingAnswer
 standing (from base) = base.standing
-standing (h ▸ Arrived _ authority turn says life) =
+standing (h ▸ Arrived life _ authority turn says) =
     filter (λ s. not (is_answer_for authority s)) (standing h)
     ++ map (answered says life) (filter (has_number turn) (in_flight h))
 standing (h ▸ Swept moment _) = filter (λ s. not (is_past_answer moment s)) (standing h)

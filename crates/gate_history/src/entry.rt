@@ -19,11 +19,12 @@ pub enum Entry {
     },
     /// That turn brought the authority's answer, in force for its life in seconds.
     Arrived {
+        // (first, and short: there is room for it beside the variant, and a history has many entries)
+        life: u32,
         moment: u64,
         authority: Authority,
         turn: TurnNo,
         says: Said,
-        life: u64,
     },
     /// A permit was granted.
     Granted {

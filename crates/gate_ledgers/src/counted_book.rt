@@ -294,7 +294,7 @@ impl<G: Gate> CountedBook<G> {
         requires room { length account.old.marks < account.old.room }
         ensures reply { Arrives self.old authority turn answer moment (Ok tt) self.new }
         ensures marks { account.new ≡ with_marks account.old (next_mark self.old
-            (Arrived (moment_at self.old moment) authority turn answer.says answer.life) ∷ []) }
+            (Arrived answer.life (moment_at self.old moment) authority turn answer.says) ∷ []) }
         ensures count { entry_count (history self.new) ≡ entry_count (history self.old) + 1 }
     {
         no_later_entry_closes();

@@ -66,7 +66,7 @@ DeskBegins d old authority m (Err refusal) new d2 = Begins old authority m (Err 
 abbrev pub DeskArrives : DeskView → Gate → Errand → Timed → ℕ → Gate → DeskView → Type 0
 DeskArrives d old t answer m new d2 =
     Arrives old t.authority t.turn answer m (Ok tt) new
-    × Makes d old (Arrived (moment_at old m) t.authority t.turn answer.says answer.life) d2
+    × Makes d old (Arrived answer.life (moment_at old m) t.authority t.turn answer.says) d2
 
 -- sweep: how many answers it ended
 abbrev pub DeskSweeps : DeskView → Gate → ℕ → Result ℕ SweepRefusal → Gate → DeskView → Type 0

@@ -53,7 +53,7 @@ IsCause _ = Unit {0}
 -- an entry's fields, without a lifetime
 abbrev pub HasFields : Entry → Type 0
 HasFields (Begun moment authority turn) = IsNumber moment × IsAuthority authority × IsNumber turn
-HasFields (Arrived moment authority turn says life) =
+HasFields (Arrived life moment authority turn says) =
     IsNumber moment × IsAuthority authority × IsNumber turn × IsSaid says
 HasFields (Granted moment number fetch) = IsNumber moment × IsNumber number × IsFetch fetch
 HasFields (AskDenied moment fetch cause) = IsNumber moment × IsFetch fetch × IsCause cause
@@ -70,7 +70,7 @@ IsLife Two says life = life_of says life ≡ life
 
 -- an arrival's lifetime fits the version
 abbrev pub HasLife : Version → Entry → Type 0
-HasLife version (Arrived _ _ _ says life) = IsLife version says life
+HasLife version (Arrived life _ _ _ says) = IsLife version says life
 HasLife version _ = Unit {0}
 
 -- an entry that the version can spell

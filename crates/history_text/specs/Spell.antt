@@ -66,7 +66,7 @@ letter_of (Swept _ _) = codes "W"
 -- the fields after the letter
 abbrev pub entry_fields : Version → Entry → List (List ℕ)
 entry_fields version (Begun moment authority turn) = decimal moment ∷ authority ∷ decimal turn ∷ []
-entry_fields version (Arrived moment authority turn says life) =
+entry_fields version (Arrived life moment authority turn says) =
     decimal moment ∷ authority ∷ decimal turn ∷ answer_fields version says life
 entry_fields version (Granted moment number fetch) =
     decimal moment ∷ decimal number ∷ fetch.token ∷ fetch.url ∷ []

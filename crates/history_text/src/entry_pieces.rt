@@ -37,7 +37,10 @@ pub(crate) fn entry_pieces(version: Version, entry: &Entry) -> Pieces<'_>
             turn,
             says,
             life,
-        } => arrived(version, *moment, authority, *turn, told_in(says), *life),
+        } => {
+            let life = u64::from(*life);
+            arrived(version, *moment, authority, *turn, told_in(says), life)
+        }
         Entry::Granted {
             moment,
             number,

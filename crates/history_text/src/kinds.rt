@@ -57,7 +57,7 @@ pub fn arrived<'a>(
     life: u64,
 ) -> Pieces<'a>
     ensures text { pieces_text result
-        ≡ entry_line version (Arrived moment authority.now turn (said_content told.entry) life) }
+        ≡ entry_line version (Arrived life moment authority.now turn (said_content told.entry)) }
     ensures authority { IsAuthority authority.now }
     ensures turn { IsNumber turn }
 {

@@ -1,5 +1,5 @@
-//! Fetches pages over TCP in bounded time, each over its own connection, or over one that an earlier page left open.
-//! RFC 9110, section 4.2.1; RFC 9112, sections 2, 3 and 9.
+//! Fetches pages over TCP in bounded time, each over its own connection, or over one that an earlier page
+//! left open. RFC 9110, section 4.2.1; RFC 9112, sections 2, 3 and 9.
 #![tactic(auto)]
 
 mod address_block;

@@ -171,8 +171,8 @@ impl<R: Net<Stream = TcpStream> + time::Clock> TcpClient<R> {
         self.fetch_page(alloc, &page, failure)
     }
 
-    /// `fetch` of such a request. If it may use a connection that was kept, and that one ends before an octet of
-    /// the response has come, the request is sent once more, over a new connection.
+    /// `fetch` of such a request. If it may use a connection that was kept, and that one ends before an octet
+    /// of the response has come, the request is sent once more, over a new connection.
     pub fn fetch_page(
         &self,
         alloc: Global,
@@ -210,8 +210,8 @@ impl<R: Net<Stream = TcpStream> + time::Clock> TcpClient<R> {
         }
     }
 
-    // Fetches a page over a connection that was kept. None if the request wants one of its own, if none is kept,
-    // or if it ended before an octet of the response came.
+    // Fetches a page over a connection that was kept. None if the request wants one of its own, if none is
+    // kept, or if it ended before an octet of the response came.
     fn fetch_again(
         &self,
         alloc: Global,

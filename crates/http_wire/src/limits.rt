@@ -18,7 +18,8 @@ pub const MAX_TRAILERS: usize = 100;
 /// The most octets of the trailers of a body in chunks, with their empty line.
 pub const MAX_TRAILER_BYTES: usize = 65_536;
 
-/// The most octets of a response in all, with its heads, where at most `USUAL_LIMIT` octets of its body are read.
+/// The most octets of a response in all, with its heads, where at most `USUAL_LIMIT` octets of its body are
+/// read.
 pub const MAX_RAW: usize = 8_388_608;
 
 /// The most octets of a body to read for which a response has no more than `MAX_RAW` in all.

@@ -50,12 +50,12 @@ impl HttpReply {
 }
 
 /// Reads one response, at most `limit` octets of its body, and of all its octets at most `MAX_RAW`, and as
-/// many more as `limit` is over `USUAL_LIMIT`; a limit over `LARGEST_LIMIT` gives no more of these. Stops reading once the response or its fault is
-/// certain; the last read may bring later octets. May wait for the source. The octets are in one buffer of
-/// 16,384 octets, which doubles up to that; while it grows, old and new may both be held. A counted
-/// body, or one to the end of the input, is handed out in that memory. One in chunks allocates its octets
-/// again, at most `limit`, and the spare room of a growing list. The final head's octets and the text of
-/// Location are allocated besides.
+/// many more as `limit` is over `USUAL_LIMIT`; a limit over `LARGEST_LIMIT` gives no more of these. Stops
+/// reading once the response or its fault is certain; the last read may bring later octets. May wait for the
+/// source. The octets are in one buffer of 16,384 octets, which doubles up to that; while it grows, old and
+/// new may both be held. A counted body, or one to the end of the input, is handed out in that memory. One in
+/// chunks allocates its octets again, at most `limit`, and the spare room of a growing list. The final head's
+/// octets and the text of Location are allocated besides.
 pub fn read_response<S: Source>(
     alloc: Global,
     source: &mut S,

@@ -13,10 +13,10 @@ pub trait BaseShelf {
     /// The text of the base that was put last, if that is known.
     ghost last: { Self → Option (List ℕ) };
 
-    /// Puts the base before what was sealed, in front of the log after so many entries, and returns the octets
-    /// that it wrote: none where that base stands already. A crash leaves it whole or not at all. Between its
-    /// pieces something else comes up, such as the journal; if that fails, or anything else, nothing of the base
-    /// is left.
+    /// Puts the base before what was sealed, in front of the log after so many entries, and returns the
+    /// octets that it wrote: none where that base stands already. A crash leaves it whole or not at all.
+    /// Between its pieces something else comes up, such as the journal; if that fails, or anything else,
+    /// nothing of the base is left.
     fn put_base<K: Sealer, A: CatchesUp>(
         &mut self,
         sealed: &K::Sealed,

@@ -84,9 +84,9 @@ pub(crate) enum WriterAccess<S: Shelf> {
 }
 
 impl<S: Shelf + Drop> GroupJournal<S> {
-    /// A journal that creates the first file: with a whole chronicle, or without a text behind earlier files. Its
-    /// files may have so many octets, if that is limited: those of the shelf's earlier files count, too. Past the
-    /// limit `has_room` is false, and all that is entered is still written.
+    /// A journal that creates the first file: with a whole chronicle, or without a text behind earlier files.
+    /// Its files may have so many octets, if that is limited: those of the shelf's earlier files count, too.
+    /// Past the limit `has_room` is false, and all that is entered is still written.
     pub fn begin<H: Chronicle>(
         alloc: Global,
         chronicle: &H,
@@ -114,9 +114,10 @@ impl<S: Shelf + Drop> GroupJournal<S> {
         })
     }
 
-    /// Whether the files have fewer octets than they may, and fewer than `TEXT_ENTRIES` entries since the last base, as was known when they were last written, or tended
-    /// where they were full. It waits for nothing. Others may write meanwhile, so an entry that is made then may
-    /// lead past the limit by what several threads enter at once.
+    /// Whether the files have fewer octets than they may, and fewer than `TEXT_ENTRIES` entries since the
+    /// last base, as was known when they were last written, or tended where they were full. It waits for
+    /// nothing. Others may write meanwhile, so an entry that is made then may lead past the limit by what
+    /// several threads enter at once.
     pub fn has_room(&self) -> bool {
         !self.is_full.load(Ordering::SeqCst)
     }
@@ -176,8 +177,8 @@ impl<S: Shelf + Drop> GroupJournal<S> {
         self.has_room() && (chronicle.is_due() || self.shared.lock(rt).is_long())
     }
 
-    /// Whether a base is due, behind what is sealed first: by the entries, the files or the octets since the last
-    /// base. Without room for the files' octets none is.
+    /// Whether a base is due, behind what is sealed first: by the entries, the files or the octets since the
+    /// last base. Without room for the files' octets none is.
     pub fn is_base_due<R: Wait>(&self, rt: &R) -> bool {
         self.shared.lock(rt).is_base_due()
     }

@@ -66,9 +66,9 @@ impl<S: Shelf + Drop> GroupJournal<S> {
     }
 
     /// Puts the base before what was sealed in front of its log, if something was sealed and is in the log.
-    /// Entries are recorded meanwhile, and the writer is not taken. If that fails, the journal goes on without
-    /// that base, and it can be tried again. One at a time, since others wait here; the newest renewal is the one
-    /// to try.
+    /// Entries are recorded meanwhile, and the writer is not taken. If that fails, the journal goes on
+    /// without that base, and it can be tried again. One at a time, since others wait here; the newest
+    /// renewal is the one to try.
     pub fn put_base<H: Chronicle, R: Wait, K: Sealer>(
         &self,
         rt: &R,

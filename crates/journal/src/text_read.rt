@@ -1,5 +1,5 @@
-//! What was read of a journal's file: its lines, and how many of them are entries.
-//! docs/FORMATS.md has the texts: entries come behind a line `V 2`, or behind the line `E` of a base, or at once.
+//! What was read of a journal's file: its lines, and how many of them are entries. docs/FORMATS.md has the
+//! texts: entries come behind a line `V 2`, or behind the line `E` of a base, or at once.
 ghost use Rattle.std.specs.Prelude.{◌≡◌, ◌+◌, ◌^◌, length, min};
 ghost use Rattle.journal.specs.Reading.{end_of_line, line_count, step, steps, text_at};
 

@@ -6,6 +6,7 @@ mod clerk;
 mod fault;
 mod http_metrics;
 mod http_serving;
+mod line_turns;
 mod numbers;
 mod overseeing;
 mod recorded;

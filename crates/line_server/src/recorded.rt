@@ -1,5 +1,6 @@
 //! A gate with its journal: no reply and no fetch goes past what is recorded.
 //! Without a journal nothing has to be recorded first.
+use crate::line_turns::LineTurns;
 use command_server::ServerCounters;
 use gate_journal::Recording;
 use gate_lock::{Gate, GateLock};
@@ -7,13 +8,14 @@ use journal::{CaughtUp, Recorder};
 use journal_keepers::{JournalRecords, JournaledFetcher};
 use std::sync::Wait;
 
-/// A gate, its journal, and what its server counts.
+/// A gate, its journal, and what its server counts, with the turns of its sessions.
 #[derive(Drop)]
 pub(crate) struct Recorded<'a, G: Gate, J: Recorder, R: Wait> {
     pub(crate) gate: &'a GateLock<G>,
     pub(crate) chronicle: Recording<'a, G, R>,
     pub(crate) journal: &'a J,
     pub(crate) counters: ServerCounters<'a>,
+    pub(crate) turns: LineTurns,
 }
 
 impl<'a, G: Gate, J: Recorder, R: Wait> Recorded<'a, G, J, R> {

@@ -1,6 +1,7 @@
 //! A worker of a server: serves one client after the other to its end.
 
 use crate::fault::ServeFault;
+use crate::line_turns::{LinesInARow, RepliesInARow};
 use crate::numbers::{ConnectionNumbers, share_of};
 use crate::recorded::Recorded;
 use crate::server::Server;
@@ -140,8 +141,15 @@ impl<F: Fetcher, C: NumberedClock, A: Alarm, R: Wait + time::Clock> Server<'_, F
         writer: O,
         keeper: &mut K,
     ) {
-        let mut reader = Counted::new(reader);
-        let mut writer = JournaledSink::new(recorded.caught_up(), Counted::new(writer));
+        let turn = recorded.turns.session();
+        let mut reader = LinesInARow {
+            turn: &turn,
+            lines: Counted::new(reader),
+        };
+        let mut writer = RepliesInARow {
+            turn: &turn,
+            replies: JournaledSink::new(recorded.caught_up(), Counted::new(writer)),
+        };
         let first = FirstLine::NoRequest;
         let _ = serve_from(
             self.alloc,
@@ -152,5 +160,6 @@ impl<F: Fetcher, C: NumberedClock, A: Alarm, R: Wait + time::Clock> Server<'_, F
             first,
             &recorded.counters,
         );
+        turn.give_back();
     }
 }

@@ -5,6 +5,7 @@ ghost use Rattle.line_server.specs.Servers.{HasLast, IsServed};
 
 use crate::fault::ServeFault;
 use crate::http_serving::HttpEntrance;
+use crate::line_turns::LineTurns;
 use crate::numbers::{ConnectionNumbers, count_of, numbers_at};
 use crate::recorded::Recorded;
 use crate::warden::Alarm;
@@ -133,6 +134,7 @@ impl<
                 self.fetcher.meter(),
                 journal.meter(),
             ),
+            turns: LineTurns::new(),
         };
         let served = self.serve_recorded(&recorded, begun)?;
         // Entries without a reply are recorded too.
@@ -204,8 +206,8 @@ impl<
         }
     }
 
-    // Runs the workers, and serves clients of HTTP beside them until none is left, if allowed. If these can't be
-    // served, no more clients are accepted, and the server ends.
+    // Runs the workers, and serves clients of HTTP beside them until none is left, if allowed. If these can't
+    // be served, no more clients are accepted, and the server ends.
     fn employ_visiting<G: Gate + Send + Sync, J: Recorder + Sync>(
         &self,
         recorded: &Recorded<'_, G, J, R>,

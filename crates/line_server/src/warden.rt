@@ -35,7 +35,8 @@ pub trait Alarm {
     /// The history is full: nothing is asked, begun or swept any more.
     fn log_is_full(&self);
 
-    /// A base of the journal could not be put. It is tried again each minute, and the journal goes on meanwhile.
+    /// A base of the journal could not be put. It is tried again each minute, and the journal goes on
+    /// meanwhile.
     fn base_failed(&self, fault: JournalFault);
 }
 

@@ -46,10 +46,10 @@ answer_brought world authority turn word old mid new begins brings =
     let brought = subst P its_authority brings.brings in
     record {
       own = entries.Begun begins.begun authority turn.turn
-          ∷ entries.Arrived (moment_at h brings.arrived) authority turn.turn brings.answer.says brings.answer.life ∷ [];
+          ∷ entries.Arrived brings.answer.life (moment_at h brings.arrived) authority turn.turn brings.answer.says ∷ [];
       adds = appended (entries_of old.marks) (entries_of mid.marks) (entries_of new.marks) _
-          (entries.Arrived (moment_at h brings.arrived) authority turn.turn brings.answer.says brings.answer.life ∷ []) begins.adds
-          (subst (λ name. entries_of new.marks ≡ entries_of mid.marks ++ entries.Arrived (moment_at h brings.arrived) name turn.turn brings.answer.says brings.answer.life ∷ [])
+          (entries.Arrived brings.answer.life (moment_at h brings.arrived) authority turn.turn brings.answer.says ∷ []) begins.adds
+          (subst (λ name. entries_of new.marks ≡ entries_of mid.marks ++ entries.Arrived brings.answer.life (moment_at h brings.arrived) name turn.turn brings.answer.says ∷ [])
           its_authority other);
       tells = record {
         begun = begins.begun;

@@ -57,7 +57,7 @@ pub record IsTurn
   pub since_arrived : IsSinceRead world arrived
   pub stale : BeganStale world.closed_for authority begun turn
   pub brings : IsBrought world.schemes (world.gives robots_limit) authority says life
-  pub own_is : own ≡ entries.Begun begun authority turn ∷ entries.Arrived arrived authority turn says life ∷ []
+  pub own_is : own ≡ entries.Begun begun authority turn ∷ entries.Arrived life arrived authority turn says ∷ []
 
 -- at most one such turn
 abbrev pub MayRefresh : World → List ℕ → List Entry → Type 0

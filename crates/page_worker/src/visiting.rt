@@ -35,8 +35,8 @@ pub enum Visited {
 pub struct PageVisit {
     /// The fetch, or why it was not made. Never a redirect that is not followed.
     pub hop: Hop,
-    /// The response, if the fetch gave one: its status, its body, of at most as many octets as the fetcher gives, and
-    /// its head.
+    /// The response, if the fetch gave one: its status, its body, of at most as many octets as the fetcher
+    /// gives, and its head.
     pub reply: Option<HttpReply>,
     /// Why the device of the fetch failed, if it did and the reason is known.
     pub failure: Option<Failure>,

@@ -6,6 +6,7 @@ pub mod Octets
 pub mod Normal
 pub mod Capacity
 pub mod PageText
+pub mod PagePlaces
 pub mod Schemes
 pub mod PageUrl
 pub mod PlainUrl

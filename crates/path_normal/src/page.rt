@@ -6,6 +6,7 @@ ghost use Rattle.path_normal.specs.Limits.{max_url};
 ghost use Rattle.path_normal.specs.Normal.{normal_path};
 ghost use Rattle.path_normal.specs.PageText.{authority_of, host_of, host_start, is_https, robots_url_of, scheme_of, target_of};
 ghost use Rattle.path_normal.specs.PageUrl.{HasPartsOf, IsAnswer, IsFaultless, IsPage, authority_of_parts, host_of_parts, page_of_parts, page_url_of_parts, target_of_parts};
+ghost use Rattle.path_normal.specs.PagePlaces.{form_in, host_in};
 ghost use Rattle.path_normal.specs.PlainUrl.{IsPlain};
 ghost use Rattle.path_normal.specs.Authority.{IsAuthority};
 
@@ -15,36 +16,44 @@ use crate::normal::normal_path;
 use crate::page_url::{MAX_AUTHORITY, MAX_URL};
 use crate::schemes::{Schemes, is_https};
 use std::alloc::{AllocError, Global};
+use std::boxed::Box;
 use std::marker::Model;
 use url::{Position, Url};
 
 // The path of a robots.txt, in normal form.
 const ROBOTS_PATH: &str = "/robots.txt";
 
-/// The URL of a page, which the copies of a `PageUrl` share.
+/// The URL of a page, which the copies of a `PageUrl` share. It is small, since each permit and
+/// each entry of a history has one: 40 octets, and 48 with the count of its copies.
 pub(crate) struct Page {
     text: String,
-    // Where the host begins, and where it ends with its port.
-    start: usize,
-    end: usize,
-    // The normal form of the target, if it differs.
-    path: Option<Vec<u8>>,
+    places: PagePlaces,
+}
+
+// Where the host is, with the normal form of the target if it differs. An enum has room for the
+// host beside its tag, so this takes 16 octets, as many as an `Option` of the form alone.
+#[derive(Drop)]
+enum PagePlaces {
+    Kept(HostRange),
+    Rewritten(HostRange, Box<Vec<u8>>),
+}
+
+// Where the host begins, and where it ends with its port: in a URL of at most `MAX_URL` octets.
+#[derive(Clone, Copy)]
+struct HostRange {
+    start: u16,
+    end: u16,
 }
 
 // Let go by one call: no crate above proves anew how its parts end.
 impl Drop for Page {
     fn drop(self) {
-        let Page {
-            text: _,
-            start: _,
-            end: _,
-            path: _,
-        } = self;
+        let Page { text: _, places: _ } = self;
     }
 }
 
 impl Model for Page {
-    ghost use Rattle.std.specs.Prelude.{List, ℕ, ◌≡◌, ◌+◌, length, option_map, string_bytes, unwrap_or};
+    ghost use Rattle.std.specs.Prelude.{List, ℕ, ◌≡◌, ◌+◌, length, string_bytes};
     ghost use Rattle.std.specs.Coded.{coded_list, coded_ℕ};
 
     ghost Value = { List ℕ };
@@ -54,13 +63,15 @@ impl Model for Page {
     ghost use Rattle.path_normal.specs.Normal.{normal_path};
     ghost use Rattle.path_normal.specs.PageText.{host_of, host_start, target_of};
     ghost use Rattle.path_normal.specs.PageUrl.{IsPage};
+    ghost use Rattle.path_normal.specs.PagePlaces.{form_in, host_in};
 
     ghost view = { λ page. string_bytes page.text };
 
     ghost invariant = { λ page. IsPage (string_bytes page.text)
-        × (page.start ≡ host_start (string_bytes page.text))
-        × (page.end ≡ host_start (string_bytes page.text) + length (host_of (string_bytes page.text)))
-        × (unwrap_or (option_map (λ path. path.items) page.path) (target_of (string_bytes page.text))
+        × ((host_in page.places).start ≡ host_start (string_bytes page.text))
+        × ((host_in page.places).end
+        ≡ host_start (string_bytes page.text) + length (host_of (string_bytes page.text)))
+        × (form_in page.places (target_of (string_bytes page.text))
         ≡ normal_path (target_of (string_bytes page.text))) };
 }
 
@@ -73,13 +84,13 @@ impl Page {
         let alloc = authority.allocator();
         let text = robots_text(alloc, authority)?;
         let page = text.as_str();
-        let start = host_start(page);
-        let end = page.len() - ROBOTS_PATH.len();
+        let host = HostRange {
+            start: host_start(page),
+            end: (page.len() - ROBOTS_PATH.len()) as u16,
+        };
         Ok(Page {
             text,
-            start,
-            end,
-            path: Some(Vec::from_slice(alloc, ROBOTS_PATH.as_bytes())?),
+            places: PagePlaces::Kept(host),
         })
     }
 
@@ -89,11 +100,13 @@ impl Page {
         requires short { length text.now ≤ max_url }
         ensures { IfOk result (λ page. page ≡ text.now) }
     {
+        let host = HostRange {
+            start: "http://".len() as u16,
+            end: end as u16,
+        };
         Ok(Page {
             text: String::from_str(alloc, text)?,
-            start: "http://".len(),
-            end,
-            path: None,
+            places: PagePlaces::Kept(host),
         })
     }
 
@@ -106,13 +119,14 @@ impl Page {
             return Err(Unread::Fault(fault));
         }
         let start = host_start(page_in(url));
-        let end = start + host_in(url).len();
-        let path = normal_path(alloc, target_in(url).as_bytes())?;
+        let end = usize::from(start) + host_in(url).len();
+        let host = HostRange {
+            start,
+            end: end as u16,
+        };
         Ok(Page {
             text: String::from_str(alloc, page_in(url))?,
-            start,
-            end,
-            path: Some(path),
+            places: PagePlaces::of(alloc, host, target_in(url).as_bytes())?,
         })
     }
 
@@ -129,7 +143,7 @@ impl Page {
         ensures value { result ≡ is_https self.now }
         ensures page { IsPage self.now }
     {
-        self.start > "http://".len()
+        self.places.start() > "http://".len()
     }
 
     /// The host, with any port.
@@ -137,7 +151,7 @@ impl Page {
         ensures value { result.now ≡ host_of self.now }
         ensures page { IsPage self.now }
     {
-        &self.text.as_str()[self.start..self.end]
+        &self.text.as_str()[self.places.start()..self.places.end()]
     }
 
     /// The authority.
@@ -146,7 +160,7 @@ impl Page {
         ensures page { IsPage self.now }
     {
         if self.is_https() {
-            &self.text.as_str()[..self.end]
+            &self.text.as_str()[..self.places.end()]
         } else {
             self.host()
         }
@@ -157,7 +171,7 @@ impl Page {
         ensures value { result.now ≡ target_of self.now }
         ensures page { IsPage self.now }
     {
-        &self.text.as_str()[self.end..]
+        &self.text.as_str()[self.places.end()..]
     }
 
     /// The target in normal form.
@@ -165,15 +179,57 @@ impl Page {
         ensures value { result.now ≡ normal_path (target_of self.now) }
         ensures page { IsPage self.now }
     {
-        match &self.path {
-            Some(path) => path.as_slice(),
-            None => self.target().as_bytes(),
-        }
+        self.places.form(self.target().as_bytes())
     }
 
     /// The allocator of the text.
     pub(crate) fn allocator(&self) -> Global {
         *self.text.allocator()
+    }
+}
+
+impl PagePlaces {
+    // Those of a page with this target.
+    fn of(alloc: Global, host: HostRange, target: &[u8]) -> Result<PagePlaces, AllocError>
+        ensures host { IfOk result (λ places. host_in places ≡ host) }
+        ensures form { IfOk result (λ places. form_in places target.now ≡ normal_path target.now) }
+    {
+        let form = normal_path(alloc, target)?;
+        if form.as_slice() == target {
+            return Ok(PagePlaces::Kept(host));
+        }
+        Ok(PagePlaces::Rewritten(host, Box::new(alloc, form)?))
+    }
+
+    fn start(&self) -> usize
+        ensures { result ≡ (host_in self.now).start }
+    {
+        usize::from(self.host().start)
+    }
+
+    fn end(&self) -> usize
+        ensures { result ≡ (host_in self.now).end }
+    {
+        usize::from(self.host().end)
+    }
+
+    fn host(&self) -> HostRange
+        ensures { result ≡ host_in self.now }
+    {
+        match self {
+            PagePlaces::Kept(host) => *host,
+            PagePlaces::Rewritten(host, _) => *host,
+        }
+    }
+
+    // The normal form of the page's target.
+    fn form<'a>(&'a self, target: &'a [u8]) -> &'a [u8]
+        ensures { result.now ≡ form_in self.now target.now }
+    {
+        match self {
+            PagePlaces::Kept(_) => target,
+            PagePlaces::Rewritten(_, form) => form.as_slice(),
+        }
     }
 }
 
@@ -195,13 +251,13 @@ pub(crate) fn scheme_of(authority: &str) -> &'static str
     if is_https(authority) { "" } else { "http://" }
 }
 
-fn host_start(page: &str) -> usize
+fn host_start(page: &str) -> u16
     ensures { result ≡ host_start page.now }
 {
     if is_https(page) {
-        "https://".len()
+        "https://".len() as u16
     } else {
-        "http://".len()
+        "http://".len() as u16
     }
 }
 

@@ -17,8 +17,8 @@ use http_client::{AddressBlock, Reach};
 use std::alloc::Global;
 use std::net::SocketAddr;
 
-/// What fetches reach, by which program, whom they name, how long a network fault keeps a site closed, over which
-/// connections pages are fetched, and where what is decided is kept.
+/// What fetches reach, by which program, whom they name, how long a network fault keeps a site closed, over
+/// which connections pages are fetched, and where what is decided is kept.
 #[derive(Drop)]
 pub(crate) struct Fetching {
     pub(crate) reach: Reach,

@@ -1,8 +1,8 @@
 //! The help of each subcommand on its lines, with an example.
 //! See docs/FORMATS.md.
 
-/// The version of the program. `packaging/stamp` puts the seven digits of a commit in the place of `unknown`, in
-/// a program that was built.
+/// The version of the program. `packaging/stamp` puts the seven digits of a commit in the place of `unknown`,
+/// in a program that was built.
 pub(crate) const VERSION: &str = "0.1.0 (commit unknown)";
 
 /// The lines of `replay`.

@@ -1,4 +1,5 @@
-//! What is said of arguments that `clap` takes and that are refused: the value, its option, and what would be taken.
+//! What is said of arguments that `clap` takes and that are refused: the value, its option, and what would be
+//! taken.
 use crate::places::is_path;
 use crate::word_fault::WordFault;
 use http_client::AddressBlock;

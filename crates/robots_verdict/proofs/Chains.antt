@@ -1,6 +1,6 @@
 -- The chain of keys that are prefixes of one another.
 -- Used by `last_begun`.
-use Rattle.std.proofs.Common.{◌≡◌, ℕ, ◌+◌, ◌-◌, ◌<◌, ◌≤◌, Bool, true, false, inl, inr, List, [], ◌∷◌, ◌++◌, length, refl, sym, ap, ◌∙◌, subst, suc, arith, eqb-true}
+use Rattle.std.proofs.Common.{◌≡◌, ℕ, ◌+◌, ◌-◌, ◌<◌, ◌≤◌, All, Bool, true, false, inl, inr, List, ◌∷◌, ◌++◌, length, refl, sym, ap, ◌∙◌, subst, suc, arith, eqb-true}
 use Rattle.std.specs.Prelude.{◌==◌, ◌≢◌, nat_le, Option, Some, None, slice_index}
 use Rattle.std.specs.List.Sorted.{IsSortedBy}
 use Rattle.std.specs.declared.cmp.Ordering.{Ordering}
@@ -11,11 +11,12 @@ use Rattle.std.specs.Cmp.Lexicographic.{slice_cmp}
 use Rattle.std.proofs.lemmas.Bool.{and_parts, cases_lt, eq-eqb, true≢false}
 use Rattle.std.proofs.lemmas.Bool.Decides.{nat_tests}
 use Rattle.std.proofs.lemmas.Cmp.{back_total, nat_cmp_total, nat_list_cmp_total, on_total, then_total}
-use Rattle.std.proofs.lemmas.List.{get_or_append_left, get_or_push}
 use Rattle.std.proofs.lemmas.List.Sorted.{ranks_by, sorted_far}
+use Rattle.robots_verdict.specs.Parents.{listed, parent_of}
 use Rattle.robots_verdict.specs.Placed.{Placed}
 use Rattle.robots_verdict.specs.Rows.{row_at}
 use Rattle.robots_verdict.specs.Search.{AreParents, is_front_of, common, compare_plain, IsLastBegun, key, key_at}
+use Rattle.robots_verdict.proofs.Listed.{pushed_behind, pushed_last}
 use Rattle.robots_verdict.proofs.Begins.{begins_below, begins_between, begins_common, begins_itself, begins_trans}
 
 abbrev words : List ℕ → List ℕ → Ordering
@@ -120,14 +121,13 @@ none_of_group rows places rise count fits group path behind some other index les
         let there = eqb-true one.group top.group (and_parts (one.group == top.group) (is_front_of one.form top.form) inside).0 in
         absurd (other (sym there ∙ here))
 
-pub parents_pushed : (rows : List Placed) (places : List ℕ) (parents : List (Option ℕ)) (count : ℕ) (parent : Option ℕ) → length parents ≡ count →
-    AreParents rows places parents count → IsLastBegun rows places count (key_at rows places count) parent → AreParents rows places (parents ++ parent ∷ []) (count + 1)
-parents_pushed rows places parents count parent many known is index past less = elim (cases_lt index count) [
-  | inl below ↦ subst (IsLastBegun rows places index (key_at rows places index)) (sym (get_or_append_left parents (parent ∷ []) past index (omega (arith, below, many))))
-      (known index past below)
+pub parents_pushed : (rows : List Placed) (places : List ℕ) (parents : List (ℕ × ℕ)) (count : ℕ) (parent : Option ℕ) → All (λ child. child.0 < count) parents →
+    AreParents rows places parents count → IsLastBegun rows places count (key_at rows places count) parent → AreParents rows places (parents ++ listed count parent) (count + 1)
+parents_pushed rows places parents count parent behind known is index less = elim (cases_lt index count) [
+  | inl below ↦ subst (IsLastBegun rows places index (key_at rows places index)) (sym (pushed_behind parents count parent index below)) (known index below)
   | inr above ↦ (
       let same : count ≡ index = omega (arith, less, above) in
-      subst (IsLastBegun rows places index (key_at rows places index)) (sym (get_or_push parents parent past index (many ∙ same)))
-      (subst (λ (n : ℕ). IsLastBegun rows places n (key_at rows places n) parent) same is)
+      subst (λ (n : ℕ). IsLastBegun rows places n (key_at rows places n) (parent_of (parents ++ listed count parent) n)) same
+      (subst (IsLastBegun rows places count (key_at rows places count)) (sym (pushed_last parents count parent behind)) is)
       )
 ]

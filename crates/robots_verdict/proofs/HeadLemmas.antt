@@ -101,7 +101,7 @@ pub record IsRun (named : List NamedGroup) (token : List ℕ) (low high : ℕ) :
   pub inside : (k : ℕ) (d : NamedGroup) → low ≤ k → k < high → (get_or named k d).name ≡ token
   pub outside : (k : ℕ) (d : NamedGroup) → k < length named → (get_or named k d).name ≡ token → (low ≤ k) × (k < high)
 
-same_words : (a b : List ℕ) → words a b ≡ Equal → a ≡ b
+pub same_words : (a b : List ℕ) → words a b ≡ Equal → a ≡ b
 same_words a b is = (bytes_eq-Decides a b).0 (sym (is_eq-slice_cmp a b) ∙ ap is_eq is)
 
 words_same : (a b : List ℕ) → a ≡ b → words a b ≡ Equal

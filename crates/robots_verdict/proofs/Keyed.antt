@@ -1,22 +1,21 @@
 -- Sorted keys have sorted places.
 -- Used by `in_order`.
 use Rattle.std.proofs.Common.{◌≡◌, ◌≢◌, ◌⊎◌, inl, inr, ⊎_elim, ℕ, zero, suc, ◌+◌, ◌*◌, ◌<◌, ◌≤◌, min, All, List, [], ◌∷◌, length, map, get_or, refl, sym, ap, ◌∙◌, arith}
-use Rattle.std.specs.List.Sorted.{IsSortedBy}
 use Rattle.std.specs.declared.cmp.Ordering.{Ordering}
 use Rattle.std.specs.declared.cmp.Ordering.TheVariants.{Less, Equal, Greater}
-use Rattle.std.specs.Ordering.{is_lt, nat_cmp, ordering_then}
+use Rattle.std.specs.Ordering.{is_gt, is_lt, nat_cmp, ordering_then}
 use Rattle.std.specs.Cmp.{IsTotalOrder}
-use Rattle.std.specs.Prelude.{nat_lt, if◌then◌else◌}
-use Rattle.std.proofs.lemmas.Bool.{cases_lt, cases_order, le-ltb, lt-ltb}
+use Rattle.std.specs.Prelude.{false, nat_lt, not, if◌then◌else◌}
+use Rattle.std.proofs.lemmas.Bool.{cases_lt, cases_order, le-ltb, lt-ltb, true≢false}
 use Rattle.std.specs.Cmp.Lexicographic.{slice_cmp}
-use Rattle.std.proofs.lemmas.Cmp.{back_total, nat_cmp_total, nat_list_cmp_total, on_total, then_total}
+use Rattle.std.proofs.lemmas.Cmp.{nat_cmp_total, nat_list_cmp_total, on_total, then_total}
 use Rattle.std.proofs.lemmas.List.{get_or-map, length-map}
 use Rattle.std.proofs.lemmas.List.Elements.{All-get_or}
 use Rattle.robots_verdict.specs.declared.keys.Key.{Key}
-use Rattle.robots_verdict.specs.Keys.{compare_alike, compare_keys, compare_long, if_long, IsKeyOf, number}
+use Rattle.robots_verdict.specs.Keys.{AreApart, compare_alike, compare_keys, if_long, IsKeyOf, number}
 use Rattle.robots_verdict.specs.Placed.{Placed}
 use Rattle.robots_verdict.specs.Rows.{row_at}
-use Rattle.robots_verdict.specs.Search.{compare_plain, IsPlainOrder}
+use Rattle.robots_verdict.specs.Search.{compare_plain, IsPlainOrder, key}
 use Rattle.path_pattern.specs.Texts.{AreOctets, spelled_number}
 use Rattle.path_pattern.proofs.CallerLemmas.{by_front, is_equal, is_greater, is_less, later, spell_less}
 
@@ -24,8 +23,7 @@ pub keys_total : (rows : List Placed) → IsTotalOrder (compare_keys rows)
 keys_total rows =
     then_total (on_total (λ (k : Key). k.group) nat_cmp_total)
     (then_total (on_total number nat_cmp_total)
-    (then_total (on_total (λ (k : Key). k.cut) nat_cmp_total)
-    (then_total (on_total (if_long rows) nat_list_cmp_total) (on_total (λ (k : Key). k.place) (back_total nat_cmp_total)))))
+    (then_total (on_total (λ (k : Key). k.cut) nat_cmp_total) (on_total (if_long rows) nat_list_cmp_total)))
 
 one_more : (one other : ℕ) → nat_cmp one other ≡ nat_cmp (suc one) (suc other)
 one_more one other = elim (cases_order one other) [
@@ -101,47 +99,43 @@ by_number p q are also =
       | inr (inr more) ↦ ap (λ (o : Ordering). ordering_then o texts) (is_greater one other more) ∙ sym (ap (λ (o : Ordering). ordering_then o rest) (is_greater one other more))
     ]
 
-regroup : (a b c d e : Ordering) → ordering_then a (ordering_then b (ordering_then c (ordering_then d e))) ≡ ordering_then (ordering_then a (ordering_then b (ordering_then c d))) e
-regroup Less b c d e = refl
-regroup Greater b c d e = refl
-regroup Equal Less c d e = refl
-regroup Equal Greater c d e = refl
-regroup Equal Equal Less d e = refl
-regroup Equal Equal Greater d e = refl
-regroup Equal Equal Equal d e = refl
-
 -- the pattern of a key, if it is long
 kept_long : (rows : List Placed) (key : Key) → IsKeyOf rows key → if_long rows key ≡ long (row_at rows key.place).form
 kept_long rows key is = ap (λ cut. if nat_lt 16 cut then (row_at rows key.place).form else []) is.cut
 
-pub same_order : (rows : List Placed) (one other : Key) → IsKeyOf rows one → IsKeyOf rows other → compare_keys rows one other ≡ compare_plain rows one.place other.place
+pub same_order : (rows : List Placed) (one other : Key) → IsKeyOf rows one → IsKeyOf rows other → compare_keys rows one other ≡ slice_cmp nat_cmp (key rows one.place) (key rows other.place)
 same_order rows one other is also =
     let p = (row_at rows one.place).form in
     let q = (row_at rows other.place).form in
-    let last = nat_cmp other.place one.place in
     let texts : ordering_then (nat_cmp (number one) (number other)) (ordering_then (nat_cmp one.cut other.cut) (slice_cmp nat_cmp (if_long rows one) (if_long rows other))) ≡ slice_cmp nat_cmp p q =
     (λ i. ordering_then (nat_cmp (is.spelled i) (also.spelled i)) (ordering_then (nat_cmp (is.cut i) (also.cut i)) (slice_cmp nat_cmp (kept_long rows one is i) (kept_long rows other also i))))
     ∙ sym (by_number p q is.octets also.octets) in
-    regroup (nat_cmp one.group other.group) (nat_cmp (number one) (number other)) (nat_cmp one.cut other.cut) (slice_cmp nat_cmp (if_long rows one) (if_long rows other)) last
-    ∙ (λ i. ordering_then (ordering_then (nat_cmp (is.group i) (also.group i)) (texts i)) last)
+    λ i. ordering_then (nat_cmp (is.group i) (also.group i)) (texts i)
 
-pub places_rise : (rows : List Placed) (keys : List Key) → All (IsKeyOf rows) keys → IsSortedBy (λ a b. is_lt (compare_keys rows a b)) keys →
-    IsPlainOrder rows (map (λ (k : Key). k.place) keys)
-places_rise rows [] known sorted k d low within = absurd (omega arith)
-places_rise rows (first ∷ keys) known sorted k d low within =
+behind_rises : (texts places : Ordering) → not (is_gt texts) ≡ false → is_lt (ordering_then texts places) ≡ false
+behind_rises Less places is = absurd (true≢false is)
+behind_rises Equal places is = absurd (true≢false is)
+behind_rises Greater places is = refl
+
+pub places_rise : (rows : List Placed) (keys : List Key) → All (IsKeyOf rows) keys → AreApart rows keys → IsPlainOrder rows (map (λ (k : Key). k.place) keys)
+places_rise rows [] known apart k d low within = absurd (omega arith)
+places_rise rows (first ∷ keys) known apart k d low within =
     let place : Key → ℕ = λ (k : Key). k.place in
     let all = first ∷ keys in
     let few = length-map all place in
     let here : k < length all = omega (arith, within, few) in
     let next : k + 1 < length all = omega (arith, within, few) in
+    let this = get_or all k first in
+    let behind = get_or all (k + 1) first in
+    let order = same_order rows behind this (All-get_or (IsKeyOf rows) all (k + 1) first next known) (All-get_or (IsKeyOf rows) all k first here known) in
     (λ i. is_lt (compare_plain rows (get_or-map place all (k + 1) first d next i) (get_or-map place all k first d here i)))
-    ∙ ap is_lt (sym (same_order rows (get_or all (k + 1) first) (get_or all k first) (All-get_or (IsKeyOf rows) all (k + 1) first next known) (All-get_or (IsKeyOf rows) all k first here known)))
-    ∙ sorted k first low next
+    ∙ behind_rises (slice_cmp nat_cmp (key rows behind.place) (key rows this.place)) (nat_cmp this.place behind.place)
+    (ap (λ (o : Ordering). not (is_gt o)) (sym order) ∙ apart k first low next)
 
 module _ (rows : List Placed) (one other : Key) where
-  -- the order of the patterns that the keys do not hold, and of equal ones the stronger last
+  -- the order of the patterns that the keys do not hold
   abbrev behind_cuts : Ordering
-  behind_cuts = ordering_then (slice_cmp nat_cmp (if_long rows one) (if_long rows other)) (nat_cmp other.place one.place)
+  behind_cuts = slice_cmp nat_cmp (if_long rows one) (if_long rows other)
 
   pub unequal_cuts : one.cut ≢ other.cut → nat_cmp one.cut other.cut ≡ compare_alike rows one other
   unequal_cuts differ = elim (cases_order one.cut other.cut) [
@@ -151,14 +145,14 @@ module _ (rows : List Placed) (one other : Key) where
   ]
 
   module _ (same : one.cut ≡ other.cut) where
-    pub equal_long : 16 < one.cut → compare_long rows one other ≡ compare_alike rows one other
+    pub equal_long : 16 < one.cut → slice_cmp nat_cmp (row_at rows one.place).form (row_at rows other.place).form ≡ compare_alike rows one other
     equal_long many =
         let left : if_long rows one ≡ (row_at rows one.place).form = ap (λ b. if b then (row_at rows one.place).form else []) (lt-ltb 16 one.cut many) in
         let right : if_long rows other ≡ (row_at rows other.place).form = ap (λ b. if b then (row_at rows other.place).form else []) (lt-ltb 16 other.cut (omega (arith, many, same))) in
-        sym (λ i. ordering_then (is_equal one.cut other.cut same i) (ordering_then (slice_cmp nat_cmp (left i) (right i)) (nat_cmp other.place one.place)))
+        sym (λ i. ordering_then (is_equal one.cut other.cut same i) (slice_cmp nat_cmp (left i) (right i)))
 
-    pub equal_short : one.cut ≤ 16 → nat_cmp other.place one.place ≡ compare_alike rows one other
+    pub equal_short : one.cut ≤ 16 → Equal ≡ compare_alike rows one other
     equal_short few =
         let left : if_long rows one ≡ [] = ap (λ b. if b then (row_at rows one.place).form else []) (le-ltb 16 one.cut few) in
         let right : if_long rows other ≡ [] = ap (λ b. if b then (row_at rows other.place).form else []) (le-ltb 16 other.cut (omega (arith, few, same))) in
-        sym (λ i. ordering_then (is_equal one.cut other.cut same i) (ordering_then (slice_cmp nat_cmp (left i) (right i)) (nat_cmp other.place one.place)))
+        sym (λ i. ordering_then (is_equal one.cut other.cut same i) (slice_cmp nat_cmp (left i) (right i)))

@@ -12,7 +12,9 @@ pub mod Forms
 pub mod Readings
 pub mod Begins
 pub mod Chains
+pub mod Listed
 pub mod Keyed
+pub mod Strongest
 pub mod Placing
 pub mod PlainHits
 pub mod OtherHits

@@ -19,7 +19,7 @@ use Rattle.path_pattern.proofs.CallerLemmas.{no_star, off_last, on_last}
 use Rattle.robots_verdict.specs.Index.{FindsLeast}
 use Rattle.robots_verdict.specs.Placed.{Placed}
 use Rattle.robots_verdict.specs.Rows.{is_row_above, row_at, no_row, weight_at}
-use Rattle.robots_verdict.specs.Search.{is_front_of, is_plain_pattern, IsCut, IsLastBegun, IsPlainHit, key, key_at}
+use Rattle.robots_verdict.specs.Search.{is_front_of, is_plain_pattern, IsCut, IsLastBegun, IsPlainHit, IsStoodFor, key, key_at}
 use Rattle.robots_verdict.proofs.Begins.{begins_below, begins_between, begins_shorter, begins_whole, on_both}
 use Rattle.robots_verdict.proofs.Chains.{far, keys_rise, Rise}
 use Rattle.robots_verdict.proofs.HeadLemmas.{below_not, true_not, turned}
@@ -124,21 +124,22 @@ module _ (rows : List Placed) (places : List ℕ) (rise : Rise rows places) (gro
   pub none_behind : (index : ℕ) → index < count → is_lt (words (group ∷ path) (key_at rows places index)) ≡ false
   none_behind index less = turned (group ∷ path) (key_at rows places index) ∙ cut.below index less
 
-  module _ (are : (place : ℕ) → Contains places place ↔ ((place < length rows) × (is_plain_pattern (row_at rows place).form ≡ true))) where
-    -- the index of a hit
+  module _ (each : (place : ℕ) → place < length rows → is_plain_pattern (row_at rows place).form ≡ true → IsStoodFor rows places place) where
+    -- the index of a hit, or of one as strong with the same pattern
     record StandsAt (place : ℕ) : Type 0 where
       index : ℕ
       within : index < count
-      is : slice_index places index ≡ place
+      above : slice_index places index ≤ place
       begun : is_front_of (key_at rows places index) (group ∷ path) ≡ true
 
     hit_index : (place : ℕ) → IsPlainHit rows group path place → StandsAt place
     hit_index place hit =
         let row = row_at rows place in
-        let stands = (are place).1 (hit.within, hit.plain) in
-        let is : slice_index places stands.0 ≡ place = get_or_default places stands.0 0 place stands.1 ∙ stands.2 in
-        let begun = subst (λ (p : ℕ). is_front_of (key rows p) (group ∷ path) ≡ true) (sym is) (on_both row.group group true (is_front_of row.form path) hit.in_group hit.begun) in
-        record { index = stands.0; within = within stands.0 stands.1 begun; is = is; begun = begun }
+        let for = each place hit.within hit.plain in
+        let stands = for.stands in
+        let is : slice_index places stands.0 ≡ for.by = get_or_default places stands.0 0 for.by stands.1 ∙ stands.2 in
+        let begun = subst (λ (text : List ℕ). is_front_of text (group ∷ path) ≡ true) (sym (ap (key rows) is ∙ for.alike)) (on_both row.group group true (is_front_of row.form path) hit.in_group hit.begun) in
+        record { index = stands.0; within = within stands.0 stands.1 begun; above = let above = for.above in omega (arith, is, above); begun = begun }
       where
         within : (k : ℕ) → k < length places → is_front_of (key_at rows places k) (group ∷ path) ≡ true → k < count
         within k less begun = elim (cases_lt k count) [
@@ -150,11 +151,11 @@ module _ (rows : List Placed) (places : List ℕ) (rise : Rise rows places) (gro
     pub none_hits : IsLastBegun rows places count (group ∷ path) None → FindsLeast (IsPlainHit rows group path) None
     none_hits none place hit = let at = hit_index place hit in true≢false (sym at.begun ∙ none at.index at.within)
 
-    module _ (falling : IsSortedBy is_row_above rows) where
+    module _ (are : (place : ℕ) → Contains places place → (place < length rows) × (is_plain_pattern (row_at rows place).form ≡ true)) (falling : IsSortedBy is_row_above rows) where
       stands : (k : ℕ) → k < count → (slice_index places k < length rows) × (is_plain_pattern (row_at rows (slice_index places k)).form ≡ true)
       stands k less =
           let fits = cut.fits in
-          (are (slice_index places k)).0 (k, omega arith, get_or_default places k (slice_index places k) 0 (omega arith))
+          are (slice_index places k) (k, omega arith, get_or_default places k (slice_index places k) 0 (omega arith))
 
       order : (k last : ℕ) → k ≤ last → last < count → is_front_of (key_at rows places k) (group ∷ path) ≡ true → is_front_of (key_at rows places last) (group ∷ path) ≡ true →
           slice_index places last ≤ slice_index places k
@@ -199,5 +200,7 @@ module _ (rows : List Placed) (places : List ℕ) (rise : Rise rows places) (gro
             record { within = both.0; plain = both.1; in_group = eqb-true row.group group parts.0; begun = parts.1 },
             λ other hit.
                 let at = hit_index other hit in
-                subst (λ (p : ℕ). place ≤ p) at.is (order at.index last (is.2 at.index at.within at.begun) is.0 at.begun is.1),
+                let low = order at.index last (is.2 at.index at.within at.begun) is.0 at.begun is.1 in
+                let above = at.above in
+                omega (arith, low, above),
           )

@@ -1,6 +1,6 @@
 -- How rows are found by text: two lists of places, and each plain row's longest prefix.
 -- Cited by `RankedRows`.
-use Rattle.std.specs.Prelude.{◌≡◌, ℕ, ◌+◌, ◌<◌, ◌≤◌, Bool, true, false, not, ◌&&◌, ◌==◌, nat_lt, ◌↔◌, Contains, List, [], ◌∷◌, length, map, Option, Some, None, slice_index, slice_index_or, if◌then◌else◌}
+use Rattle.std.specs.Prelude.{◌≡◌, ℕ, ◌+◌, ◌<◌, ◌≤◌, Bool, true, false, not, ◌&&◌, ◌==◌, nat_lt, ◌↔◌, Contains, List, [], ◌∷◌, length, map, Option, Some, None, slice_index, if◌then◌else◌}
 use Rattle.std.specs.List.Sorted.{IsSortedBy}
 use Rattle.std.specs.declared.cmp.Ordering.{Ordering}
 use Rattle.std.specs.Ordering.{is_gt, is_lt, nat_cmp, ordering_then}
@@ -10,6 +10,7 @@ use Rattle.path_pattern.specs.Matches.{Matches}
 use Rattle.path_pattern.specs.Literals.{has_no_star}
 use Rattle.robots_text.specs.Lines.{text_limit}
 use Rattle.robots_verdict.specs.declared.ranked_rows.RankedRows.{RankedRows}
+use Rattle.robots_verdict.specs.Parents.{parent_of}
 use Rattle.robots_verdict.specs.Placed.{Placed}
 use Rattle.robots_verdict.specs.Rows.{row_at}
 
@@ -64,16 +65,10 @@ IsLastBegun rows plain count text (Some last) =
     (last < count) × (is_front_of (key_at rows plain last) text ≡ true)
     × ((index : ℕ) → index < count → is_front_of (key_at rows plain index) text ≡ true → index ≤ last)
 
--- each plain place knows its last prefix before it
-abbrev pub AreParents : List Placed → List ℕ → List (Option ℕ) → ℕ → Type 0
+-- the parent of each plain place is its last prefix before it
+abbrev pub AreParents : List Placed → List ℕ → List (ℕ × ℕ) → ℕ → Type 0
 AreParents rows plain parents count =
-    (index : ℕ) (past : Option ℕ) → index < count
-    → IsLastBegun rows plain index (key_at rows plain index) (slice_index_or parents index past)
-
--- there are at least this many places and parents
-pub record IsCountOf (places : List ℕ) (parents : List (Option ℕ)) (count : ℕ) : Type 0 where
-  pub places_have : count ≤ length places
-  pub parents_have : count ≤ length parents
+    (index : ℕ) → index < count → IsLastBegun rows plain index (key_at rows plain index) (parent_of parents index)
 
 -- all places below the count whose rows are plain, or all whose are not
 pub record ArePlaces (rows : List Placed) (plain : Bool) (places : List ℕ) (count : ℕ) : Type 0 where
@@ -85,13 +80,27 @@ pub record ArePlaces (rows : List Placed) (plain : Bool) (places : List ℕ) (co
 abbrev pub groups_at : List Placed → List ℕ → List ℕ
 groups_at rows places = map (λ place. (row_at rows place).group) places
 
--- the plain places sorted by key, each with its parent
-pub record IsPlainIndex (rows : List Placed) (places : List ℕ) (parents : List (Option ℕ)) : Type 0 where
+-- among the places is one with the same group and pattern that is as strong
+pub record IsStoodFor (rows : List Placed) (places : List ℕ) (place : ℕ) : Type 0 where
+  pub by : ℕ
+  pub stands : Contains places by
+  pub alike : key rows by ≡ key rows place
+  pub above : by ≤ place
+
+-- these are some of the places, and each of those is stood for
+pub record AreStrongest (rows : List Placed) (places strongest : List ℕ) : Type 0 where
+  pub few : length strongest ≤ length places
+  pub are : (place : ℕ) → Contains strongest place → Contains places place
+  pub each : (place : ℕ) → Contains places place → IsStoodFor rows strongest place
+
+-- plain places sorted by key, the strongest of each group and pattern, with their parents
+pub record IsPlainIndex (rows : List Placed) (places : List ℕ) (parents : List (ℕ × ℕ)) : Type 0 where
   pub few : length places ≤ text_limit
   pub are : (place : ℕ)
-      → Contains places place ↔ ((place < length rows) × (is_plain_pattern (row_at rows place).form ≡ true))
+      → Contains places place → (place < length rows) × (is_plain_pattern (row_at rows place).form ≡ true)
+  pub each : (place : ℕ)
+      → place < length rows → is_plain_pattern (row_at rows place).form ≡ true → IsStoodFor rows places place
   pub rise : IsPlainOrder rows places
-  pub known : length parents ≡ length places
   pub parents_are : AreParents rows places parents (length places)
 
 -- the plain row is of the group, and a prefix of the path
@@ -143,5 +152,5 @@ IsPassed rows places group path start index =
 
 -- both lists of places are the rows'
 pub record IsSearchable (rows : List Placed) (ranks : RankedRows) : Type 0 where
-  pub plain : IsPlainIndex rows ranks.plain.places.items ranks.plain.parents.items
+  pub plain : IsPlainIndex rows ranks.plain.places.items ranks.plain.parents
   pub others : IsOtherIndex rows ranks.others.places.items ranks.others.groups.items

@@ -1,10 +1,9 @@
 //! The plain places, sorted by keys that hold the first octets of their patterns.
 //! Used by `Plain`: most comparisons of two keys look at no pattern.
 ghost use Rattle.std.specs.Prelude.{◌≡◌, All, drop, IfOk, length, map, min};
-ghost use Rattle.std.specs.List.Sorted.{IsPermutation};
 ghost use Rattle.path_pattern.specs.Texts.{AreOctets, spelled_number};
-ghost use Rattle.robots_verdict.specs.Keys.{compare_alike, compare_keys, compare_long, compare_patterns, IsKeyOf, number};
-ghost use Rattle.robots_verdict.specs.Search.{IsPlainOrder};
+ghost use Rattle.robots_verdict.specs.Keys.{AreKept, AreSorted, compare_alike, compare_keys, compare_patterns, IsKeyOf, number};
+ghost use Rattle.robots_verdict.specs.Search.{AreStrongest, IsPlainOrder};
 
 use crate::rows::Rows;
 use path_pattern::{compare_texts, front};
@@ -22,15 +21,18 @@ pub(crate) struct Key {
     place: u32,
 }
 
-/// The places in the order of plain places.
+/// The places in the order of plain places, the strongest of those with one group and pattern alone.
 pub(crate) fn in_order(alloc: Global, rows: &Rows, places: Vec<u32>) -> Result<Vec<u32>, AllocError>
-    ensures permutation { IfOk result (λ ordered. IsPermutation places.items ordered.items) }
+    ensures strongest { IfOk result (λ ordered.
+        AreStrongest rows.now.rows places.items ordered.items) }
     ensures rise { IfOk result (λ ordered. IsPlainOrder rows.now.rows ordered.items) }
 {
     let mut keys = keys_of(alloc, rows, places.as_slice())?;
     drop(places);
     keys.sort_unstable_by(|one, other| compare_keys(rows, one, other));
-    let ordered = places_of(alloc, keys.as_slice())?;
+    let strongest = strongest_of(alloc, rows, keys.as_slice())?;
+    drop(keys);
+    let ordered = places_of(alloc, strongest.as_slice())?;
     Ok(ordered)
 }
 
@@ -43,6 +45,23 @@ fn keys_of(alloc: Global, rows: &Rows, places: &[u32]) -> Result<Vec<Key>, Alloc
         keys.push(key_at(rows, *place))?;
     }
     Ok(keys)
+}
+
+// Of sorted keys with one group and pattern the one with the strongest place.
+fn strongest_of(alloc: Global, rows: &Rows, keys: &[Key]) -> Result<Vec<Key>, AllocError>
+    requires { AreSorted rows.now.rows keys.now }
+    ensures { IfOk result (λ kept. AreKept rows.now.rows keys.now kept.items) }
+{
+    let mut kept: Vec<Key> = Vec::new(alloc);
+    for key in keys {
+        let count = kept.len();
+        if count == 0 || compare_keys(rows, &kept[count - 1], key).is_ne() {
+            kept.push(*key)?;
+        } else if key.place < kept[count - 1].place {
+            kept[count - 1] = *key;
+        }
+    }
+    Ok(kept)
 }
 
 fn places_of(alloc: Global, keys: &[Key]) -> Result<Vec<u32>, AllocError>
@@ -109,20 +128,13 @@ fn compare_alike(rows: &Rows, one: &Key, other: &Key) -> Ordering
     if one.cut != other.cut {
         one.cut.cmp(&other.cut)
     } else if one.cut > 16 {
-        compare_long(rows, one, other)
+        compare_texts(
+            rows.form(one.place as usize),
+            rows.form(other.place as usize),
+        )
     } else {
-        other.place.cmp(&one.place)
+        Ordering::Equal
     }
-}
-
-fn compare_long(rows: &Rows, one: &Key, other: &Key) -> Ordering
-    ensures { result ≡ compare_long rows.now.rows one.now other.now }
-{
-    compare_texts(
-        rows.form(one.place as usize),
-        rows.form(other.place as usize),
-    )
-    .then(other.place.cmp(&one.place))
 }
 
 fn number(key: &Key) -> u128

@@ -10,7 +10,7 @@ mod keys;
 pub mod laws;
 mod normal_text;
 mod others;
-mod parent;
+mod parents;
 mod places;
 mod plain;
 mod policy;

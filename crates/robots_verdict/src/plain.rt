@@ -7,10 +7,10 @@ ghost use Rattle.std.specs.Cmp.Lexicographic.{slice_cmp};
 ghost use Rattle.robots_text.specs.Lines.{text_limit};
 ghost use Rattle.robots_verdict.specs.Index.{FindsLeast};
 ghost use Rattle.robots_verdict.specs.Rows.{is_row_above};
-ghost use Rattle.robots_verdict.specs.Search.{AreParents, ArePlaces, common, IsCountOf, IsCut, IsLastBegun, IsPlainHit, IsPlainIndex, IsPlainOrder, key, key_at};
+ghost use Rattle.robots_verdict.specs.Search.{AreParents, ArePlaces, common, IsCut, IsLastBegun, IsPlainHit, IsPlainIndex, IsPlainOrder, key, key_at};
 
 use crate::keys::in_order;
-use crate::parent::Parent;
+use crate::parents::Parents;
 use crate::rows::Rows;
 use path_pattern::compare_texts;
 use std::alloc::{AllocError, Global};
@@ -21,7 +21,7 @@ use std::cmp::Ordering;
 pub(crate) struct Plain {
     places: Vec<u32>,
     // The index of the longest other one that is its prefix, in the same group.
-    parents: Vec<Parent>,
+    parents: Parents,
 }
 
 impl Plain {
@@ -30,7 +30,7 @@ impl Plain {
         requires few { length rows.now.rows ≤ text_limit }
         requires plain { ArePlaces rows.now.rows true places.items (length rows.now.rows) }
         ensures { IfOk result (λ plain.
-            IsPlainIndex rows.now.rows plain.places.items plain.parents.items) }
+            IsPlainIndex rows.now.rows plain.places.items plain.parents) }
     {
         let places = in_order(alloc, rows, places)?;
         let parents = parents_of(alloc, rows, places.as_slice())?;
@@ -40,36 +40,30 @@ impl Plain {
     /// The place of the group's strongest plain row that is a prefix of the path.
     pub(crate) fn least(&self, rows: &Rows, group: u32, path: &[u8]) -> Option<usize>
         requires falling { IsSortedBy is_row_above rows.now.rows }
-        requires index { IsPlainIndex rows.now.rows self.now.places.items self.now.parents.items }
+        requires index { IsPlainIndex rows.now.rows self.now.places.items self.now.parents }
         ensures { FindsLeast (IsPlainHit rows.now.rows group path.now) result }
     {
         let places = self.places.as_slice();
         let count = count_to(rows, places, group, path);
-        let last = last_begun(rows, places, self.parents.as_slice(), count, group, path)?;
+        let last = last_begun(rows, places, &self.parents, count, group, path)?;
         Some(self.places[last as usize] as usize)
     }
 }
 
-fn parents_of(alloc: Global, rows: &Rows, places: &[u32]) -> Result<Vec<Parent>, AllocError>
+fn parents_of(alloc: Global, rows: &Rows, places: &[u32]) -> Result<Parents, AllocError>
     requires few { length places.now ≤ text_limit }
     requires rise { IsPlainOrder rows.now.rows places.now }
-    ensures known { IfOk result (λ parents. length parents.items ≡ length places.now) }
-    ensures parents { IfOk result (λ parents.
-        AreParents rows.now.rows places.now parents.items (length places.now)) }
+    ensures { IfOk result (λ parents.
+        AreParents rows.now.rows places.now parents (length places.now)) }
 {
-    let mut parents = Vec::with_capacity(alloc, places.len())?;
+    let mut parents = Parents::new(alloc);
     for index in 0..places.len() {
         let place = places[index] as usize;
-        let parent = last_begun(
-            rows,
-            places,
-            parents.as_slice(),
-            index,
-            rows.group(place),
-            rows.form(place),
-        );
-        parents.push(Parent::of(parent))?;
+        let group = rows.group(place);
+        let parent = last_begun(rows, places, &parents, index, group, rows.form(place));
+        parents.push(index as u32, parent)?;
     }
+    parents.fit();
     Ok(parents)
 }
 
@@ -95,13 +89,13 @@ fn count_to(rows: &Rows, places: &[u32], group: u32, path: &[u8]) -> usize
 fn last_begun(
     rows: &Rows,
     places: &[u32],
-    parents: &[Parent],
+    parents: &Parents,
     count: usize,
     group: u32,
     path: &[u8],
 ) -> Option<u32>
     requires few { length places.now ≤ text_limit }
-    requires fits { IsCountOf places.now parents.now count }
+    requires fits { count ≤ length places.now }
     requires rise { IsPlainOrder rows.now.rows places.now }
     requires parents { AreParents rows.now.rows places.now parents.now count }
     requires behind { (index : ℕ) → index < count
@@ -120,7 +114,7 @@ fn last_begun(
     let common = common(rows.form(place), path);
     let mut last = top;
     while rows.form(places[last] as usize).len() > common {
-        let Some(parent) = parents[last].as_index() else {
+        let Some(parent) = parents.of(last) else {
             return None;
         };
         last = parent as usize;

@@ -8,7 +8,8 @@ use crate::asked_pause::MOST_PAUSE;
 use crate::door::NEVER;
 use crate::table::MOST_SITES;
 
-/// Whatever is called at whatever moments: two visits of a site that were let in begin at least the delay apart.
+/// Whatever is called at whatever moments: two visits of a site that were let in begin at least the delay
+/// apart.
 pub fn pauses_are_kept()
     ensures { PausesAreKept }
 {}

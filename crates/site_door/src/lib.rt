@@ -1,5 +1,6 @@
-//! The doors to sites: how many visits of one site may be under way at once, and how long lies between the begins of
-//! two. RFC 9309 says nothing on either; RFC 9110, section 10.2.3, lets a site say when to come again.
+//! The doors to sites: how many visits of one site may be under way at once, and how long lies between the
+//! begins of two. RFC 9309 says nothing on either; RFC 9110, section 10.2.3, lets a site say when to come
+//! again.
 #![tactic(auto)]
 
 mod admission;

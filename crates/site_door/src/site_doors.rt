@@ -66,8 +66,8 @@ impl<'a, R: Wait + time::Clock> SiteDoors<'a, R> {
         visit
     }
 
-    /// Ends a visit, with the milliseconds of the pause that the site asks for, if any. Returns the place of the
-    /// visitor who has waited longest for this site, who is to be called.
+    /// Ends a visit, with the milliseconds of the pause that the site asks for, if any. Returns the place of
+    /// the visitor who has waited longest for this site, who is to be called.
     pub fn leave(&self, visit: SiteVisit, pause: Option<u64>) -> Option<usize> {
         let mut guard = self.lobby.lock(self.rt);
         let lobby = &mut *guard;

@@ -1,4 +1,5 @@
-//! Tests beyond the clauses: waits for clients, by a clock set by hand. Real connections are cases of checks/serve.
+//! Tests beyond the clauses: waits for clients, by a clock set by hand. Real connections are cases of
+//! checks/serve.
 
 mod accepts;
 mod partings;

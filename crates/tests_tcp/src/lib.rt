@@ -1,5 +1,5 @@
-//! Tests of what is fetched over TCP, and of lines of jobs. Fetches of the built program are under checks/crawls and
-//! checks/rows.
+//! Tests of what is fetched over TCP, and of lines of jobs. Fetches of the built program are under
+//! checks/crawls and checks/rows.
 #![tactic(auto)]
 
 #[cfg(test)]

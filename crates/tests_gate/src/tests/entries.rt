@@ -7,7 +7,7 @@ use std::test::Fail;
 // has the texts, its start and its finish none.
 #[test]
 fn an_entry_takes_at_most_100_octets(_rt: HostRuntime) -> Result<(), Fail> {
-    if size_of::<Entry>() == 56 {
+    if size_of::<Entry>() == 48 {
         Ok(())
     } else {
         Err(Fail::new("an entry without its texts"))

@@ -89,7 +89,7 @@ fn arrived(alloc: Global) -> Result<Entry, Fail> {
         authority: Authority::new(alloc, "a.example")?,
         turn: TurnNo::new(1),
         says: Said::Open(Opening::Unavailable),
-        life: LIFE,
+        life: LIFE as u32,
     })
 }
 

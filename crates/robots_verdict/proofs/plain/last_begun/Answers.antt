@@ -8,12 +8,12 @@ use Rattle.robots_verdict.proofs.plain.last_begun.Goals as goal
 
 pub returns-then-group : goal.returns-then-group
 returns-then-group c =
-    none_of_group c.args.rows.now.rows c.args.places.now c.requires.rise c.args.count c.requires.fits.places_have c.args.group c.args.path.now c.requires.behind (omega (arith, c.if-count-eq0.false))
+    none_of_group c.args.rows.now.rows c.args.places.now c.requires.rise c.args.count c.requires.fits c.args.group c.args.path.now c.requires.behind (omega (arith, c.if-count-eq0.false))
     (λ same. c.if-group.true (c.group.ensures ∙ same))
 
 pub loop-last-init : goal.loop-last-init
 loop-last-init c =
-    near_top c.args.rows.now.rows c.args.places.now c.requires.rise c.args.count c.requires.fits.places_have (c.args.group ∷ c.args.path.now) c.requires.behind (omega (arith, c.if-count-eq0.false))
+    near_top c.args.rows.now.rows c.args.places.now c.requires.rise c.args.count c.requires.fits (c.args.group ∷ c.args.path.now) c.requires.behind (omega (arith, c.if-count-eq0.false))
 
 no_parent : (found : Option ℕ) → ((parent : ℕ) → found ≡ Some parent → ⊥) → found ≡ None
 no_parent None never = refl
@@ -31,10 +31,10 @@ returns-in_default c =
     let is = c.common-common.ensures ∙ ap (λ (t : List ℕ). common t c.args.path.now) c.form.ensures in
     let form = (row_at rows (slice_index places last)).form in
     let short : c.common-common.result < length form = omega (arith, c.loop-last-test.true, ap length c.form-in-loop-last.ensures) in
-    let not = begun rows places c.requires.rise c.args.count c.requires.fits.places_have text c.requires.behind some last c.loop-last.invariant
+    let not = begun rows places c.requires.rise c.args.count c.requires.fits text c.requires.behind some last c.loop-last.invariant
     ∙ falls_short top.group c.args.group (length form) c.common-common.result top.form c.args.path.now same is short in
-    none_near rows places c.requires.rise c.args.count c.requires.fits.places_have text c.requires.behind some last c.loop-last.invariant not
-    (subst (IsLastBegun rows places last (key_at rows places last)) (sym c.index-parents-last.is ∙ sym c.as_index.ensures ∙ no_parent _ c.in_default.not-Some) (c.requires.parents last c.index-parents-last.result c.loop-last.invariant.within))
+    none_near rows places c.requires.rise c.args.count c.requires.fits text c.requires.behind some last c.loop-last.invariant not
+    (subst (IsLastBegun rows places last (key_at rows places last)) (sym c.of.ensures ∙ no_parent _ c.in_default.not-Some) (c.requires.parents last c.loop-last.invariant.within))
 
 pub loop-last-preserved : goal.loop-last-preserved
 loop-last-preserved c =
@@ -48,10 +48,10 @@ loop-last-preserved c =
     let is = c.common-common.ensures ∙ ap (λ (t : List ℕ). common t c.args.path.now) c.form.ensures in
     let form = (row_at rows (slice_index places last)).form in
     let short : c.common-common.result < length form = omega (arith, c.loop-last-test.true, ap length c.form-in-loop-last.ensures) in
-    let not = begun rows places c.requires.rise c.args.count c.requires.fits.places_have text c.requires.behind some last c.loop-last.invariant
+    let not = begun rows places c.requires.rise c.args.count c.requires.fits text c.requires.behind some last c.loop-last.invariant
     ∙ falls_short top.group c.args.group (length form) c.common-common.result top.form c.args.path.now same is short in
-    near_parent rows places c.requires.rise c.args.count c.requires.fits.places_have text c.requires.behind some last c.loop-last.invariant c.in-Some.parent not
-    (subst (IsLastBegun rows places last (key_at rows places last)) (sym c.index-parents-last.is ∙ sym c.as_index.ensures ∙ c.in-Some.is) (c.requires.parents last c.index-parents-last.result c.loop-last.invariant.within))
+    near_parent rows places c.requires.rise c.args.count c.requires.fits text c.requires.behind some last c.loop-last.invariant c.in-Some.parent not
+    (subst (IsLastBegun rows places last (key_at rows places last)) (sym c.of.ensures ∙ c.in-Some.is) (c.requires.parents last c.loop-last.invariant.within))
 
 pub returns : goal.returns
 returns c =
@@ -65,6 +65,6 @@ returns c =
     let is = c.common-common.ensures ∙ ap (λ (t : List ℕ). common t c.args.path.now) c.form.ensures in
     let form = (row_at rows (slice_index places last)).form in
     let len : length form ≤ c.common-common.result = omega (arith, c.loop-last-test.false, ap length c.form-in-loop-last.ensures) in
-    found rows places c.requires.rise c.args.count c.requires.fits.places_have text c.requires.behind some last c.loop-last.invariant
-    (begun rows places c.requires.rise c.args.count c.requires.fits.places_have text c.requires.behind some last c.loop-last.invariant
+    found rows places c.requires.rise c.args.count c.requires.fits text c.requires.behind some last c.loop-last.invariant
+    (begun rows places c.requires.rise c.args.count c.requires.fits text c.requires.behind some last c.loop-last.invariant
     ∙ reaches top.group c.args.group (length form) c.common-common.result top.form c.args.path.now same is len)

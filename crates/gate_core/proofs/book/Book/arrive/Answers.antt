@@ -41,7 +41,7 @@ invariant_of-self-2 c =
     arrived_kept b c.self.invariant c.push_reserved.new.self c.arrive.new.self c.take.new.self moment c.args.turn authority answer own late flying
     (subst (λ (t : Timed). Changes b.cache authority (arrived c.args.turn t.says t.life (site_of b.cache authority)) c.arrive.new.self) c.twin-twin.ensures.behind c.in_ok-arrive.ensures.1)
     c.take.ensures.taken
-    (c.push_reserved.ensures.items ∙ (λ i. b.entries.items ++ Arrived moment (name_is i) c.args.turn (says_is i) (life_is i) ∷ [])) c.push_reserved.ensures.capacity
+    (c.push_reserved.ensures.items ∙ (λ i. b.entries.items ++ Arrived (life_is i) moment (name_is i) c.args.turn (says_is i) ∷ [])) c.push_reserved.ensures.capacity
 
 pub returns : goal.returns
 returns c =
@@ -57,9 +57,9 @@ returns c =
     let name_is : c.in-Some.name ≡ authority =
     ap (λ (o : Option (List ℕ)). unwrap_or o authority) (sym c.in-Some.is ∙ c.take.ensures.name ∙ turn_named b c.self.invariant authority c.args.turn flying) in
     let stands = turn_stands b c.self.invariant authority c.args.turn flying in
-    let entry = Arrived moment authority c.args.turn answer.says answer.life in
+    let entry = Arrived answer.life moment authority c.args.turn answer.says in
     let adds = adds_of b c.args.self.now entry c.push_reserved.new.self.items c.self.view_is
-    (c.push_reserved.ensures.items ∙ (λ i. b.entries.items ++ Arrived moment (name_is i) c.args.turn (says_is i) (life_is i) ∷ [])) (late, stands, own) in (
+    (c.push_reserved.ensures.items ∙ (λ i. b.entries.items ++ Arrived (life_is i) moment (name_is i) c.args.turn (says_is i) ∷ [])) (late, stands, own) in (
       subst (λ (g : Gate). has_turn (history g) authority c.args.turn ≡ true) c.self.view_is stands,
-      subst (λ (m : ℕ). Adds c.args.self.now (Arrived m authority c.args.turn answer.says answer.life) (record { limits = b.limits; base = b.base; entries = c.push_reserved.new.self.items })) c.moment_of_call-moment.ensures adds,
+      subst (λ (m : ℕ). Adds c.args.self.now (Arrived answer.life m authority c.args.turn answer.says) (record { limits = b.limits; base = b.base; entries = c.push_reserved.new.self.items })) c.moment_of_call-moment.ensures adds,
     )

@@ -9,7 +9,7 @@ use Rattle.gate_ledgers.proofs.counted_book.CountedBook.arrive.Goals as goal
 
 pub invariant_of-self : goal.invariant_of-self
 invariant_of-self g c =
-    let e = Arrived (moment_at c.self.inside.book c.args.moment) c.args.authority c.args.turn c.twin-twin.new.self.says c.twin-twin.new.self.life in
+    let e = Arrived c.twin-twin.new.self.life (moment_at c.self.inside.book c.args.moment) c.args.authority c.args.turn c.twin-twin.new.self.says in
     let adds = c.in-Ok.ensures.1 in (
       ended c.no_later_entry_closes.ensures.one_more c.self.inside.book c.arrive.new.self e 0 0 1 adds
           (c.each_entry_counts.ensures (history c.self.inside.book) e c.history-legal.ensures.legal adds.fit)

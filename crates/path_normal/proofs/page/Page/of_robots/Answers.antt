@@ -1,4 +1,4 @@
--- The text is a page URL, and the path is in normal form.
+-- The text is a page URL, whose target is in normal form.
 use Rattle.std.proofs.Common.{◌∙◌, ◌-◌, length, sym, ap, subst}
 use Rattle.path_normal.specs.Normal.{normal_path}
 use Rattle.path_normal.specs.PageText.{authority_of, host_start}
@@ -10,9 +10,9 @@ invariant_of-result c =
     let spelled = (c.in_ok-text.ensures {u = tt}).value in
     let page = subst (IsRobotsPage c.args.authority.now) (sym spelled) (robots_page c.args.authority.now c.robots_text.ensures.authority) in (
       page.is_page,
-      c.host_start-start.ensures ∙ ap host_start c.as_str-page.ensures.value,
+      c.host_start.ensures ∙ ap host_start c.as_str-page.ensures.value,
       ap (λ text. length text - 11) c.as_str-page.ensures.value ∙ robots_end _ _ page,
-      (c.in_ok-from_slice.ensures {u = tt}).items ∙ c.as_bytes.ensures.value ∙ sym (ap normal_path page.target),
+      page.target ∙ sym (ap normal_path page.target),
     )
 
 pub returns-clause-authority : goal.returns-clause-authority
