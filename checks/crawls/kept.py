@@ -2,7 +2,14 @@
 may do to those that are kept."""
 import asyncio
 import re
+import shutil
+import subprocess
+import tempfile
+import types
 
+from lib.cases import Skipped
+from lib.program import ROOT
+from lib.sites import HOST
 from loopback import NO_ROBOTS, PAGE, AsyncSite, crawl
 
 PAGES = 30
@@ -136,6 +143,26 @@ async def ends_that_are_said():
     return "requests of a connection that may not go on", max(counts), 1
 
 
+async def connections_of_many_workers():
+    """Sixteen workers have no more connections to a site than it serves at once, which are twenty: no page waits for one
+    that is idle. The site is fast, so that workers are often done at the same moment."""
+    if not shutil.which("cc"):
+        raise Skipped("there is no C compiler")
+    failed = 0
+    with tempfile.TemporaryDirectory() as folder:
+        program = f"{folder}/site"
+        subprocess.run(["cc", "-O2", "-pthread", "-o", program, f"{ROOT}/bench/site.c"], check=True)
+        for _ in range(5):
+            with subprocess.Popen([program, "20", "1000"], stdout=subprocess.PIPE, text=True) as process:
+                site = types.SimpleNamespace(scheme="http", address=f"{HOST}:{int(process.stdout.readline())}")
+                site.server = types.SimpleNamespace(close=process.kill)
+                words = ["--workers", "16", "--read-timeout", "3", "--keep-alive"]
+                report, _, _ = await crawl(words, [(site, f"/{n}") for n in range(4_000)])
+            assert report.endswith("SHIFT jobs 4000 hops 4000 starts 4000\n"), report[-200:]
+            failed += report.count("FAULT")
+    return "pages that failed, of 20,000 of a site that serves twenty connections, for 16 workers", failed, 0
+
+
 CRAWLS = [
-    connections_of_a_site, requests_of_a_connection, closed_behind_each_page, octets_unasked, ends_that_are_said,
+    connections_of_a_site, connections_of_many_workers, requests_of_a_connection, closed_behind_each_page, octets_unasked, ends_that_are_said,
 ]

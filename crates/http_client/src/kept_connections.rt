@@ -5,17 +5,21 @@ ghost use Rattle.std.specs.Time.{instant_nanos};
 ghost use Rattle.http_client.specs.Kept.{IsKeptFor, most_idle, most_kept};
 
 use crate::host_port::host_port_of;
+use crossbeam_utils::Backoff;
 use path_normal::PageUrl;
 use std::alloc::{AllocError, Global};
 use std::io::ErrorKind;
 use std::marker::Model;
 use std::net::TcpStream;
-use std::sync::Mutex;
 use std::sync::atomic::{AtomicBool, Ordering};
+use std::sync::{Mutex, MutexGuard};
 use std::time::{Duration, Instant};
 
 /// The most connections that are kept. The one that is idle longest goes first.
 const MOST_KEPT: usize = 64;
+
+// How often a thread looks whether nobody uses the list.
+const TRIES: usize = 1_000;
 
 /// The most requests over one connection.
 const MOST_REQUESTS: u32 = 100;
@@ -155,8 +159,8 @@ fn close_old(kept: &mut Vec<KeptConnection>, now: Instant)
     }
 }
 
-/// The connections that a client keeps. Several threads may use it. None waits for another: one that finds it
-/// in use does without.
+/// The connections that a client keeps. Several threads may use it. One that finds it in use looks again for a
+/// while, and then does without: to do so at once would open more and more connections to a server.
 #[derive(Drop)]
 pub(crate) struct KeptConnections {
     list: Mutex<Option<KeptList>>,
@@ -170,6 +174,18 @@ impl KeptConnections {
             list: Mutex::new(None),
             closed: AtomicBool::new(false),
         }
+    }
+
+    // The list. It is in use for about a microsecond at a time, or longer if its thread loses the processor.
+    fn lend(&self) -> Option<MutexGuard<'_, Option<KeptList>>> {
+        let backoff = Backoff::new();
+        for _ in 0..TRIES {
+            if let Some(list) = self.list.try_lock() {
+                return Some(list);
+            }
+            backoff.snooze();
+        }
+        None
     }
 
     /// Takes out a silent connection to the page's server, by the page's scheme, if one is kept.
@@ -193,7 +209,7 @@ impl KeptConnections {
         ensures soon { IfSome result
             (λ kept. instant_nanos now ≤ instant_nanos kept.since + most_idle) }
     {
-        let mut list = self.list.try_lock()?;
+        let mut list = self.lend()?;
         match &mut *list {
             Some(list) => {
                 list.close_old(now);
@@ -223,7 +239,7 @@ impl KeptConnections {
     }
 
     fn put_in(&self, alloc: Global, kept: KeptConnection, now: Instant) {
-        if let Some(mut list) = self.list.try_lock() {
+        if let Some(mut list) = self.lend() {
             if list.is_none() {
                 *list = Some(KeptList::new(alloc));
             }
@@ -240,11 +256,11 @@ impl KeptConnections {
         self.close_late();
     }
 
-    // Closes those that are kept after `close`. Whoever finds the list in use leaves it to its user, who comes
+    // Closes those that are kept after `close`. Whoever does without the list leaves it to its user, who comes
     // here afterwards.
     fn close_late(&self) {
         if self.closed.load(Ordering::SeqCst) {
-            if let Some(mut list) = self.list.try_lock() {
+            if let Some(mut list) = self.lend() {
                 *list = None;
             }
         }
